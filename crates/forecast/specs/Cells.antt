@@ -1,0 +1,39 @@
+-- Document 01, "The forecast": at most P cells, ordered from newest (head) to oldest (tail).
+use Prim.Native.Nat.{ℕ}
+use mathlib.Core.Bool.{Bool}
+use mathlib.Core.List.{List}
+use lib.Dec.{eqb}
+use lib.ListN.{length, take, getD}
+use Rattle.lists.specs.Lists.{padded}
+use Rattle.lists.specs.Search.{placeBy}
+use Rattle.forecast.specs.declared.Cell.{Cell}
+use Rattle.forecast.specs.declared.Forecast.{Forecast}
+
+-- A cell holds a marker (a live key, or 0 for the front), the segment where the marker is, and a count.
+abbrev pub cell : ℕ → ℕ → ℕ → Cell
+cell x s n = record { marker = x; segment = s; count = n }
+
+abbrev pub zeroCell : Cell
+zeroCell = cell 0 0 0
+
+abbrev pub counted : ℕ → Cell → Cell
+counted n c = cell (c .marker) (c .segment) n
+
+-- The used cells.
+abbrev pub usedCells : Forecast → List Cell
+usedCells F = take (F .used) (F .cells)
+
+-- Room for 12 cells is kept, with the number used; unused cells are all zeros.
+unfoldable pub forecastOf : List Cell → Forecast
+forecastOf cs = record { cells = padded 12 zeroCell cs; used = length cs }
+
+-- The place of the cell with marker x; the number of cells where x has none.
+abbrev pub marks : ℕ → Cell → Bool
+marks x c = eqb (c .marker) x
+
+abbrev pub cellAt : ℕ → List Cell → ℕ
+cellAt x cs = placeBy (marks x) cs
+
+-- The weight of a key (of the front, for 0) is its cell's count, else 0.
+unfoldable pub weight : List Cell → ℕ → ℕ
+weight cs x = getD cs (cellAt x cs) zeroCell .count

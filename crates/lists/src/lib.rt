@@ -1,0 +1,1 @@
+// Definitions and laws on lists, in specs/ and proofs/. No code.

@@ -1,0 +1,15 @@
+pub mod Shares
+pub mod Placing
+pub mod SharingOut
+pub mod Looking
+pub mod Runs
+pub mod Checks
+pub mod Calls
+pub mod Rows
+pub mod Demand1
+pub mod PlainSet
+pub mod Demand2
+pub mod Readings
+pub mod History
+pub mod Demand3
+pub mod Sums

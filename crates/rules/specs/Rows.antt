@@ -1,0 +1,111 @@
+-- Document 01, "Refusal numbers, in order of testing": each row in words about single slots, cells and bytes.
+use Prim.Native.Nat.{ℕ, zero, suc, _+_, _*_, _/_, _^_, _≤_, _<_}
+use mathlib.Core.Path.{_≡_}
+use mathlib.Core.Logic.{_⊎_, _≢_}
+use mathlib.Core.List.{List, [], _∷_}
+use lib.ListN.{length, drop, getD}
+use Rattle.slots.specs.Segments.{live}
+use Rattle.slots.specs.Orders.{slotAt}
+use Rattle.forecast.specs.declared.Cell.{Cell}
+use Rattle.forecast.specs.declared.Forecast.{Forecast}
+use Rattle.forecast.specs.Cells.{zeroCell}
+use Rattle.rules.specs.Runs.{requestOf}
+use Rattle.rules.specs.Calls.{request, Worked}
+
+-- A row: its number, and when it is given.
+pub record Row : Type 1 where
+  pub no : ℕ
+  pub when : Type 0
+
+-- n is the number of the first row that applies, or 0 where none does.
+abbrev pub Tells : List Row → ℕ → Type 0
+Tells [] n = n ≡ 0
+Tells (r ∷ rs) n = (r .when × (n ≡ r .no)) ⊎ ((¬ (r .when)) × Tells rs n)
+
+-- None of the rows applies.
+abbrev pub NoneOf : List Row → Type 0
+NoneOf [] = Unit {0}
+NoneOf (r ∷ rs) = (¬ (r .when)) × NoneOf rs
+
+-- 1: length is not 64 × 2^h, h from 1 to 6.
+abbrev pub row1 : List ℕ → Row
+row1 slots = record { no = 1; when = (h : ℕ) → 1 ≤ h → h ≤ 6 → length slots ≢ 64 * 2 ^ h }
+
+-- 2: keys not strictly rising, or a key after a gap in a segment.
+abbrev pub NotRisingAt : List ℕ → ℕ → ℕ → Type 0
+NotRisingAt slots i j = (i < j) × (slotAt slots i ≢ 0) × (slotAt slots j ≢ 0) × (slotAt slots j ≤ slotAt slots i)
+
+abbrev pub AfterGapAt : List ℕ → ℕ → ℕ → Type 0
+AfterGapAt slots i j = (i < j) × (i / 64 ≡ j / 64) × (slotAt slots i ≡ 0) × (slotAt slots j ≢ 0)
+
+abbrev pub row2 : List ℕ → Row
+row2 slots = record { no = 2; when = ((i : ℕ) × (j : ℕ) × NotRisingAt slots i j) ⊎ ((i : ℕ) × (j : ℕ) × AfterGapAt slots i j) }
+
+-- 3: over 32 × 2^h keys.
+abbrev pub row3 : List ℕ → Row
+row3 slots = record { no = 3; when = (h : ℕ) × (length slots ≡ 64 * 2 ^ h) × (32 * 2 ^ h < length (live slots)) }
+
+-- 4: the forecast uses over P cells; or a used cell's count is not 1 to P, its marker is another's or neither 0 nor live, or its segment
+-- is wrong; or an unused cell is not all zeros.
+abbrev pub cellOf : Forecast → ℕ → Cell
+cellOf F i = getD (F .cells) i zeroCell
+
+abbrev pub NotLiveAt : List ℕ → ℕ → Type 0
+NotLiveAt slots x = (x ≢ 0) × ((t : ℕ) → t < length slots → slotAt slots t ≢ x)
+
+abbrev pub WrongSegment : List ℕ → Cell → Type 0
+WrongSegment slots c =
+    ((c .marker ≡ 0) × (c .segment ≢ 0))
+    ⊎ ((c .marker ≢ 0) × ((t : ℕ) × (t < length slots) × (slotAt slots t ≡ c .marker) × (c .segment ≢ t / 64)))
+
+pub data BadCell (P : ℕ) (slots : List ℕ) (F : Forecast) (i : ℕ) : Type 0 where
+  noCount : cellOf F i .count < 1 → BadCell P slots F i
+  overCount : P < cellOf F i .count → BadCell P slots F i
+  anothers : (j : ℕ) → j < F .used → j ≢ i → cellOf F j .marker ≡ cellOf F i .marker → BadCell P slots F i
+  notLive : NotLiveAt slots (cellOf F i .marker) → BadCell P slots F i
+  wrongSegment : WrongSegment slots (cellOf F i) → BadCell P slots F i
+
+pub data BadForecast (P : ℕ) (slots : List ℕ) (F : Forecast) : Type 0 where
+  tooMany : P < F .used → BadForecast P slots F
+  badCell : (i : ℕ) → i < F .used → BadCell P slots F i → BadForecast P slots F
+  notZero : (i : ℕ) → F .used ≤ i → i < length (F .cells) → cellOf F i ≢ zeroCell → BadForecast P slots F
+
+abbrev pub row4 : List ℕ → Forecast → Row
+row4 slots F = record { no = 4; when = (h : ℕ) × (length slots ≡ 64 * 2 ^ h) × BadForecast (6 + h) slots F }
+
+-- 5: the key of an insert, delete or lookup is 0.
+abbrev pub row5 : ℕ → Row
+row5 y = record { no = 5; when = y ≡ 0 }
+
+-- 6: insert: key present. 7: delete: key absent.
+abbrev pub PresentIn : List ℕ → ℕ → Type 0
+PresentIn slots y = (i : ℕ) × (i < length slots) × (slotAt slots i ≡ y)
+
+abbrev pub row6 : List ℕ → ℕ → Row
+row6 slots y = record { no = 6; when = PresentIn slots y }
+
+abbrev pub row7 : List ℕ → ℕ → Row
+row7 slots y = record { no = 7; when = ¬ (PresentIn slots y) }
+
+-- 8: insert: list already holds 32 × 2^h keys.
+abbrev pub row8 : List ℕ → Row
+row8 slots = record { no = 8; when = (h : ℕ) × (length slots ≡ 64 * 2 ^ h) × (32 * 2 ^ h ≤ length (live slots)) }
+
+-- 9: run: short record, wrong mark or wrong kind, at byte place p.
+pub data BadRecord (bytes : List ℕ) (p : ℕ) : Type 0 where
+  short : length bytes < p + 11 → BadRecord bytes p
+  firstMark : getD bytes p 0 ≢ 0xA5 → BadRecord bytes p
+  secondMark : getD bytes (p + 1) 0 ≢ 0x5A → BadRecord bytes p
+  wrongKind : getD bytes (p + 2) 0 ≢ 1 → getD bytes (p + 2) 0 ≢ 2 → BadRecord bytes p
+
+abbrev pub row9 : List ℕ → ℕ → Row
+row9 bytes p = record { no = 9; when = (p < length bytes) × BadRecord bytes p }
+
+-- 10: run: allowance would be passed. W is what the run has done before the record at its place.
+abbrev pub row10 : List ℕ → ℕ → Worked → Row
+row10 bytes allowance W = record {
+  no = 10;
+  when =
+      (W .reply .place < length bytes)
+      × (allowance < W .reply .moves + request (requestOf (drop (W .reply .place) bytes)) (W .slots) (W .forecast) .answer .moves);
+}

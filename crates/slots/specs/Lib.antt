@@ -1,0 +1,4 @@
+pub mod Segments
+pub mod Windows
+pub mod Keys
+pub mod Orders

@@ -1,0 +1,9 @@
+pub mod Tests
+pub mod Computed
+pub mod Members
+pub mod Only
+pub mod Joined
+pub mod Maps
+pub mod Search
+pub mod Fill
+pub mod Parts

@@ -127,7 +127,7 @@ pub record Equals (T : Totals) (qs : List Request) (s : Series) (W : Worked) : T
   pub totals : W .totals ≡ added T (record { worked = length qs; refused = s .refused; moves = s .moves; sweeps = s .sweeps; place = 11 * length qs })
 
 abbrev pub RunIsSingly : Type 0
-RunIsSingly = (slots : List ℕ) (F : Forecast) (bytes : List ℕ) (allowance : ℕ) (T : Totals) → check slots F ≡ 0
+RunIsSingly = (slots : List ℕ) (F : Forecast) (bytes : List ℕ) (allowance : ℕ) (T : Totals) → Roomy F → check slots F ≡ 0
     → (qs : List Request) → qs ≡ take (run slots F bytes allowance T .reply .worked) (recordsOf bytes)
     → Equals T qs (singly qs (begin slots F)) (run slots F bytes allowance T)
 

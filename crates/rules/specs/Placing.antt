@@ -2,7 +2,7 @@
 use Prim.Native.Nat.{ℕ, zero, suc, _+_, _^_}
 use mathlib.Core.Bool.{Bool, true, false, not}
 use mathlib.Core.Option.{Option, none, some}
-use mathlib.Core.List.{List, [], _∷_, _++_}
+use mathlib.Core.List.{List, []}
 use lib.Dec.{leb, ltb, eqb}
 use lib.ListN.{length, getD, set}
 use Rattle.lists.specs.Choice.{if_then_else_}
@@ -10,7 +10,7 @@ use Rattle.lists.specs.Lists.{splice}
 use Rattle.lists.specs.Search.{first}
 use Rattle.slots.specs.Segments.{Segments, keys}
 use Rattle.slots.specs.Windows.{start, window, count}
-use Rattle.slots.specs.Keys.{member, below, above, predecessor, segmentOf}
+use Rattle.slots.specs.Keys.{member, above, put, cut, predecessor, segmentOf}
 use Rattle.forecast.specs.declared.Cell.{Cell}
 use Rattle.forecast.specs.Cells.{weight}
 use Rattle.forecast.specs.Steps.{noted, dropped, retargeted}
@@ -50,13 +50,6 @@ accept ss cs moves swept sparse = record {
   answer = record { number = 0; moves = moves; sparse = sparse };
   swept = swept;
 }
-
--- A key put in its place among others, and taken out.
-abbrev pub put : ℕ → List ℕ → List ℕ
-put y ks = below y ks ++ (y ∷ above y ks)
-
-abbrev pub cut : ℕ → List ℕ → List ℕ
-cut y ks = below y ks ++ above y ks
 
 -- The key goes to the predecessor's segment, or segment 0 for the front.
 abbrev pub home : ℕ → Segments → ℕ

@@ -1,7 +1,7 @@
 -- Where a key stands among the keys, and the segment that it is in.
 use Prim.Native.Nat.{ℕ, zero, suc, _<_}
 use mathlib.Core.Bool.{Bool}
-use mathlib.Core.List.{List, [], _∷_}
+use mathlib.Core.List.{List, [], _∷_, _++_}
 use lib.Dec.{ltb, eqb}
 use Rattle.lists.specs.Choice.{if_then_else_}
 use Rattle.lists.specs.Lists.{All, only, anyOf}
@@ -26,6 +26,13 @@ below y = only (λ k. ltb k y)
 
 abbrev pub above : ℕ → List ℕ → List ℕ
 above y = only (λ k. ltb y k)
+
+-- A key put in its place among others, and taken out.
+abbrev pub put : ℕ → List ℕ → List ℕ
+put y ks = below y ks ++ (y ∷ above y ks)
+
+abbrev pub cut : ℕ → List ℕ → List ℕ
+cut y ks = below y ks ++ above y ks
 
 abbrev pub largest : List ℕ → ℕ
 largest [] = 0

@@ -1,0 +1,4 @@
+pub mod Windows
+pub mod Counts
+pub mod Rising
+pub mod Keys

@@ -1,0 +1,9 @@
+pub mod Table
+pub mod SharingOut
+pub mod Splits
+pub mod Climb
+pub mod Settled
+pub mod Accepted
+pub mod Moved
+pub mod Sizes
+pub mod Demand3

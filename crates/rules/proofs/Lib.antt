@@ -7,3 +7,5 @@ pub mod Accepted
 pub mod Moved
 pub mod Sizes
 pub mod Demand3
+pub mod Sums
+pub mod OwnCases

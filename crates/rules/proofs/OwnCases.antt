@@ -1,0 +1,59 @@
+-- Computed cases of our own, for what document 01's sums let through.
+use mathlib.Core.Path.{_≡_}
+use mathlib.Core.Bool.{Bool}
+use mathlib.Core.List.{List, [], _∷_, _++_, map, List·Memᴰ as Mem}
+use Prim.Native.Nat.{ℕ, zero, suc, _+_, _*_}
+use lib.ListN.{length, replicate}
+use Rattle.lists.specs.Lists.{without, deal, joined, total}
+use Rattle.lists.proofs.Computed.{same, same→eq, all-at}
+use Rattle.slots.specs.Keys.{predecessor, segmentOf}
+use Rattle.forecast.specs.Cells.{cell, weight}
+use Rattle.forecast.specs.Steps.{raised, tailed, noted, dropped, retargeted}
+use Rattle.rules.specs.declared.Request.the-variants.{Insert, Delete}
+use Rattle.rules.specs.SharingOut.{leftShare, plan, shareOut}
+use Rattle.rules.specs.Placing.{sweep, chosen, settled, insertLevel, insertKey, deleteLevel, deleteKey, outcome}
+use Rattle.rules.specs.Sums.{Case, Worked, Shared, gives, says, room, upFrom}
+
+-- the even numbers from 2 to 128
+abbrev evens : List ℕ
+evens = map (λ n. 2 * n) (upFrom 1 64)
+
+-- Noting that changes the very split it precedes: 2 gets its weight from this insert, and 17 and 48 are not 33 and 32.
+abbrev notesFirst : Case
+notesFirst = Worked 2 (room (evens ∷ [] ∷ [] ∷ [] ∷ []) []) (Insert 3 ∷ []) (17 ∷ 48 ∷ 0 ∷ 0 ∷ 0 ∷ 65 ∷ 0 ∷ 1 ∷ 0 ∷ [])
+
+-- The front's weight belongs to left halves only: the right half is shared evenly.
+abbrev frontLeft : Case
+frontLeft = Shared 2 (cell 0 0 3 ∷ []) (upFrom 1 100) (10 ∷ 26 ∷ 32 ∷ 32 ∷ [])
+
+-- and to windows that begin at slot 0: here segments 2 and 3 are swept, and only the last key weighs.
+abbrev frontElsewhere : Case
+frontElsewhere =
+    Worked 2 (room ((1 ∷ []) ∷ [] ∷ upFrom 101 64 ∷ [] ∷ []) (cell 0 0 3 ∷ [])) (Insert 200 ∷ []) (1 ∷ 0 ∷ 48 ∷ 17 ∷ 0 ∷ 65 ∷ 0 ∷ 2 ∷ 3 ∷ [])
+
+-- A delete's climb that meets a window above its limits, at height 6: levels 1 to 4 are too sparse, level 5 holds 1,197 keys where 1,184
+-- are allowed, and the whole array is within limits.
+abbrev crowdedCounts : List ℕ
+crowdedCounts =
+    (7 ∷ 9 ∷ 10 ∷ 10 ∷ []) ++ (replicate 4 11 ++ (replicate 8 12 ++ (replicate 14 64 ++ (replicate 2 63 ++ replicate 32 0))))
+
+abbrev fours : ℕ → List ℕ
+fours n = joined (replicate n (19 ∷ 19 ∷ 19 ∷ 18 ∷ []))
+
+abbrev lower : List ℕ
+lower = 19 ∷ 18 ∷ 19 ∷ 18 ∷ []
+
+abbrev crowdedWindow : Case
+crowdedWindow =
+    Worked 6 (room (deal crowdedCounts (upFrom 1 (total crowdedCounts))) []) (Delete 1 ∷ [])
+    (fours 7 ++ (lower ++ (fours 3 ++ (lower ++ (fours 3 ++ (lower ++ (0 ∷ 1197 ∷ 0 ∷ 0 ∷ 0 ∷ [])))))))
+
+abbrev ownCases : List Case
+ownCases = notesFirst ∷ frontLeft ∷ frontElsewhere ∷ crowdedWindow ∷ []
+
+abbrev right : Case → Bool
+right c = same (gives c) (says c)
+
+pub own-cases : (c : Case) → Mem c ownCases → gives c ≡ says c
+unfolding without predecessor segmentOf weight raised tailed noted dropped retargeted leftShare plan shareOut sweep chosen settled insertLevel insertKey deleteLevel deleteKey outcome
+own-cases c m = same→eq (gives c) (says c) (all-at right ownCases tt c m)

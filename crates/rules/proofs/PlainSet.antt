@@ -1,0 +1,62 @@
+-- The plain set is a set: what it has, and what add, remove and beyond leave.
+use mathlib.Core.Path.{_≡_, refl, sym, subst}
+use mathlib.Core.Bool.{Bool, true, false, not}
+use mathlib.Core.Logic.{_⊎_, inl, inr, _≢_, _↔_}
+use mathlib.Core.List.{List, [], _∷_, _++_, List·Memᴰ as Mem, List·Memᴰ·head as here, List·Memᴰ·tail as there}
+use mathlib.Core.List.{List·Memᴰ·not-nil as nowhere, List·Memᴰ·cases-cons as mem-cases, List·Memᴰ·append-cases as in-either}
+use Prim.Native.Nat.{ℕ, _≤_, _<_}
+use native.Mathlib.Nat.{lt-trans}
+use native.Mathlib.Omega.{arith}
+use lib.Dec.{T, ltb, eqb, ltb→lt, lt→ltb, nltb→le, eqb→eq}
+use Rattle.lists.specs.Choice.{if_then_else_}
+use Rattle.lists.proofs.Tests.{neqb→ne}
+use Rattle.lists.proofs.Only.{mem-only}
+use Rattle.slots.specs.Keys.{Rising, member, below, above, put, cut}
+use Rattle.slots.proofs.Rising.{only-rising, below-mem, above-mem, cut-rising, cut-mem, mem-cut}
+use Rattle.slots.proofs.Keys.{member→mem, mem→member}
+use Rattle.rules.specs.Demand2.{IsSet}
+use Rattle.rules.specs.PlainSet as set
+use Rattle.rules.proofs.SetLaws.{has-member, above-beyond, cut-remove}
+
+-- what an added key leaves
+module _ (y : ℕ) where
+  abbrev Added : List ℕ → List ℕ → Type 0
+  Added ks new = (k : ℕ) → Mem k new ↔ ((k ≡ y) ⊎ Mem k ks)
+
+  added : (ks : List ℕ) → Added ks (set.add y ks)
+  added [] = λ k. (λ m. mem-cases m, λ s. elim s [ inl e ↦ here e | inr n ↦ there n ])
+  added (j ∷ ks) = go (ltb y j) (eqb y j) (eqb→eq y j) (added ks)
+    where
+      go : (b c : Bool) → (T c → y ≡ j) → Added ks (set.add y ks) → Added (j ∷ ks) (if b then y ∷ j ∷ ks else if c then j ∷ ks else j ∷ set.add y ks)
+      go true c q ih k = (λ m. mem-cases m, λ s. elim s [ inl e ↦ here e | inr n ↦ there n ])
+      go false true q ih k = (λ m. inr m, λ s. elim s [ inl e ↦ here (subst (λ z. k ≡ z) (q tt) e) | inr n ↦ n ])
+      go false false q ih k = (
+        λ m. elim (mem-cases m) [ inl e ↦ inr (here e) | inr n ↦ elim (ih k .0 n) [ inl e ↦ inl e | inr o ↦ inr (there o) ] ],
+        λ s. elim s [ inl e ↦ there (ih k .1 (inl e)) | inr n ↦ elim (mem-cases n) [ inl e ↦ here e | inr o ↦ there (ih k .1 (inr o)) ] ],
+      )
+
+  add-rising : (ks : List ℕ) → Rising ks → Rising (set.add y ks)
+  add-rising [] h = (λ k m. absurd (nowhere m), tt)
+  add-rising (j ∷ ks) h = go (ltb y j) (eqb y j) (ltb→lt y j) (nltb→le y j) (neqb→ne y j) (add-rising ks (h .1))
+    where
+      go : (b c : Bool) → (T b → y < j) → (T (not b) → j ≤ y) → (T (not c) → y ≢ j) → Rising (set.add y ks) → Rising (if b then y ∷ j ∷ ks else if c then j ∷ ks else j ∷ set.add y ks)
+      go true c p q r ih = (λ k m. elim (mem-cases m) [ inl e ↦ rw e (p tt) | inr n ↦ lt-trans (p tt) (h .0 k n) ], h)
+      go false true p q r ih = h
+      go false false p q r ih = (λ k m. elim (added ks k .0 m) [ inl e ↦ omega (arith, q tt, r tt) | inr n ↦ h .0 k n ], ih)
+
+  -- a key taken out of a rising list is gone, the others stay
+  removed : (ks : List ℕ) → Rising ks → (k : ℕ) → Mem k (set.remove y ks) ↔ ((k ≢ y) × Mem k ks)
+  removed ks h k = rw (← cut-remove y ks h) (λ m. (other m, cut-mem y ks k m), λ p. mem-cut y ks k (p .1) (p .0))
+    where
+      other : Mem k (cut y ks) → k ≢ y
+      other m = elim (in-either (below y ks) m) [ inl n ↦ omega (arith, below-mem y ks k n .0) | inr n ↦ omega (arith, above-mem y ks k n .0) ]
+
+pub isSet : IsSet
+isSet = record {
+  rises = λ y ks h. (add-rising y ks h, subst Rising (cut-remove y ks h) (cut-rising y ks h));
+  has = λ y ks. (λ t. member→mem y ks (subst T (has-member y ks) t), λ m. subst T (sym (has-member y ks)) (mem→member y ks m));
+  add = λ y ks. added y ks;
+  remove = λ y ks. removed y ks;
+  beyond = λ a ks k. rw (← above-beyond a ks) (λ m. above-mem a ks k m, λ p. mem-only (λ j. ltb a j) ks k (p .1) (lt→ltb a k (p .0)));
+  rising = λ a ks h. subst Rising (above-beyond a ks) (only-rising (λ k. ltb a k) ks h);
+}

@@ -1,3 +1,4 @@
 pub mod SetLaws
 pub mod PlainSet
 pub mod SetScan
+pub mod SetLookup

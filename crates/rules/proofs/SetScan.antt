@@ -1,4 +1,4 @@
--- Lookup and scan are answered as the plain set answers.
+-- Scan is answered as the plain set answers, and a scan into an empty output.
 use mathlib.Core.Path.{_≡_, refl, sym, ap, ap₂, _∙_, subst}
 use mathlib.Core.Bool.{Bool, true, false, not}
 use mathlib.Core.Logic.{_⊎_, inl, inr, _↔_}
@@ -23,25 +23,6 @@ use Rattle.slots.proofs.Rising.{only-rising, rising-across, above-mem}
 use Rattle.rules.specs.Looking.{Scanned, lastOr, lookedUp, scanned}
 use Rattle.rules.specs.PlainSet as set
 use Rattle.rules.proofs.SetLaws.{has-member, above-beyond}
-
--- LOOKUP
-pub looked-up-number : (y : ℕ) (ss : Segments) → lookedUp y ss .number ≡ (if eqb y 0 then 5 else 0)
-unfolding lookedUp
-looked-up-number y ss = go (eqb y 0) (member y (keys ss))
-  where
-    go : (b c : Bool) → (if b then notFound 5 else if c then record { number = 0; present = true; segment = segmentOf ss y } else notFound 0) .number ≡ (if b then 5 else 0)
-    go true c = refl
-    go false true = refl
-    go false false = refl
-
-pub looked-up-present : (y : ℕ) (ss : Segments) → lookedUp y ss .present ≡ (if eqb y 0 then false else set.has y (keys ss))
-unfolding lookedUp
-looked-up-present y ss = rw (has-member y (keys ss)) (go (eqb y 0) (member y (keys ss)))
-  where
-    go : (b c : Bool) → (if b then notFound 5 else if c then record { number = 0; present = true; segment = segmentOf ss y } else notFound 0) .present ≡ (if b then false else c)
-    go true c = refl
-    go false true = refl
-    go false false = refl
 
 -- THE LAST of a rising list, or what stands before it
 last-mem : (a : ℕ) (xs : List ℕ) → Mem (lastOr a xs) (a ∷ xs)
@@ -92,6 +73,42 @@ module _ (a : ℕ) (ks : List ℕ) (h : Rising ks) where
   more-is : (n : ℕ) → anyOf (ltb (lastOr a (take n (above a ks)))) ks ≡ ltb (length (take n (above a ks))) (length (above a ks))
   more-is n =
       elim (decLt n (length (above a ks))) [
-        | yes p ↦ is-true _ (left-over n p) ∙ sym (lt-ltb _ _ (omega (arith, length-take-le n (above a ks) (omega arith))))
-        | no p ↦ rw (take-all n (above a ks) (omega arith)) (is-false _ none-left ∙ sym (le-ltb _ _ (le-refl _)))
+        | yes p ↦
+            let e : length (take n (above a ks)) < length (above a ks) = omega (arith, length-take-le n (above a ks) (omega arith)) in
+            is-true _ (left-over n p) ∙ sym (lt-ltb _ _ e)
+        | no p ↦ rw (take-all n (above a ks) (omega arith)) (is-false _ none-left ∙ sym (le-ltb _ _ (le-refl (length (above a ks)))))
       ]
+
+-- what a scan tells, part by part
+module _ (a : ℕ) (ss : Segments) (out : List ℕ) where
+  abbrev pub page : List ℕ
+  page = take (length out) (set.beyond a (keys ss))
+
+  pub scanned-number : scanned a ss out .number ≡ 0
+  unfolding scanned
+  scanned-number = refl
+
+  pub scanned-written : scanned a ss out .written ≡ length page
+  unfolding scanned
+  scanned-written = ap (λ (f : List ℕ). length (take (length out) f)) (above-beyond a (keys ss))
+
+  pub scanned-output : scanned a ss out .output ≡ page ++ drop (length page) out
+  unfolding scanned
+  scanned-output = ap (λ (f : List ℕ). take (length out) f ++ drop (length (take (length out) f)) out) (above-beyond a (keys ss))
+
+  pub scanned-more : Rising (keys ss) → scanned a ss out .more ≡ ltb (length page) (length (set.beyond a (keys ss)))
+  unfolding scanned
+  scanned-more h = more-is a (keys ss) h (length out) ∙ ap (λ (f : List ℕ). ltb (length (take (length out) f)) (length f)) (above-beyond a (keys ss))
+
+  -- and all of it, whatever the set's bounds
+  pub scan-told : (most few : ℕ) → Rising (keys ss)
+      → set.Scanned (scanned a ss out .number) (scanned a ss out .written) (scanned a ss out .more) (scanned a ss out .output) ≡ set.told most few (set.Scan a out) (keys ss)
+  scan-told most few h = λ i. set.Scanned (scanned-number i) (scanned-written i) (scanned-more h i) (scanned-output i)
+
+-- Into an empty output 0 keys are written, and more remain exactly if a live key above a exists.
+pub scan-none : (a : ℕ) (ss : Segments) → (scanned a ss [] .written ≡ 0) × (T (scanned a ss [] .more) ↔ ((k : ℕ) × Mem k (keys ss) × (a < k)))
+unfolding scanned
+scan-none a ss = (
+  refl,
+  (λ t. (any-some (ltb a) (keys ss) t .0, any-some (ltb a) (keys ss) t .1, ltb→lt _ _ (any-some (ltb a) (keys ss) t .2)), λ k. some-any (ltb a) (keys ss) (k .0) (k .1) (lt→ltb a (k .0) (k .2))),
+)

@@ -1,8 +1,8 @@
 -- The plain set is a set: what it has, and what add, remove and beyond leave.
-use mathlib.Core.Path.{_≡_, refl, sym, subst}
+use mathlib.Core.Path.{_≡_, sym, subst}
 use mathlib.Core.Bool.{Bool, true, false, not}
 use mathlib.Core.Logic.{_⊎_, inl, inr, _≢_, _↔_}
-use mathlib.Core.List.{List, [], _∷_, _++_, List·Memᴰ as Mem, List·Memᴰ·head as here, List·Memᴰ·tail as there}
+use mathlib.Core.List.{List, [], _∷_, List·Memᴰ as Mem, List·Memᴰ·head as here, List·Memᴰ·tail as there}
 use mathlib.Core.List.{List·Memᴰ·not-nil as nowhere, List·Memᴰ·cases-cons as mem-cases, List·Memᴰ·append-cases as in-either}
 use Prim.Native.Nat.{ℕ, _≤_, _<_}
 use native.Mathlib.Nat.{lt-trans}
@@ -11,15 +11,15 @@ use lib.Dec.{T, ltb, eqb, ltb→lt, lt→ltb, nltb→le, eqb→eq}
 use Rattle.lists.specs.Choice.{if_then_else_}
 use Rattle.lists.proofs.Tests.{neqb→ne}
 use Rattle.lists.proofs.Only.{mem-only}
-use Rattle.slots.specs.Keys.{Rising, member, below, above, put, cut}
+use Rattle.slots.specs.Keys.{Rising, below, cut}
 use Rattle.slots.proofs.Rising.{only-rising, below-mem, above-mem, cut-rising, cut-mem, mem-cut}
 use Rattle.slots.proofs.Keys.{member→mem, mem→member}
 use Rattle.rules.specs.Demand2.{IsSet}
 use Rattle.rules.specs.PlainSet as set
 use Rattle.rules.proofs.SetLaws.{has-member, above-beyond, cut-remove}
 
--- what an added key leaves
 module _ (y : ℕ) where
+  -- the keys of a set with y added
   abbrev Added : List ℕ → List ℕ → Type 0
   Added ks new = (k : ℕ) → Mem k new ↔ ((k ≡ y) ⊎ Mem k ks)
 
@@ -35,6 +35,7 @@ module _ (y : ℕ) where
         λ s. elim s [ inl e ↦ there (ih k .1 (inl e)) | inr n ↦ elim (mem-cases n) [ inl e ↦ here e | inr o ↦ there (ih k .1 (inr o)) ] ],
       )
 
+  -- and they rise
   add-rising : (ks : List ℕ) → Rising ks → Rising (set.add y ks)
   add-rising [] h = (λ k m. absurd (nowhere m), tt)
   add-rising (j ∷ ks) h = go (ltb y j) (eqb y j) (ltb→lt y j) (nltb→le y j) (neqb→ne y j) (add-rising ks (h .1))
@@ -51,6 +52,7 @@ module _ (y : ℕ) where
       other : Mem k (cut y ks) → k ≢ y
       other m = elim (in-either (below y ks) m) [ inl n ↦ omega (arith, below-mem y ks k n .0) | inr n ↦ omega (arith, above-mem y ks k n .0) ]
 
+-- every part of it
 pub isSet : IsSet
 isSet = record {
   rises = λ y ks h. (add-rising y ks h, subst Rising (cut-remove y ks h) (cut-rising y ks h));

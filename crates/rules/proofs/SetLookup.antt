@@ -1,7 +1,6 @@
 -- Lookup is answered as the plain set answers.
-use mathlib.Core.Path.{_≡_, refl, ap}
+use mathlib.Core.Path.{_≡_, refl}
 use mathlib.Core.Bool.{Bool, true, false}
-use mathlib.Core.List.{List}
 use Prim.Native.Nat.{ℕ}
 use lib.Dec.{eqb}
 use Rattle.lists.specs.Choice.{if_then_else_}
@@ -16,6 +15,7 @@ abbrev chosen : Bool → Bool → ℕ → Found
 chosen b c s = if b then notFound 5 else if c then record { number = 0; present = true; segment = s } else notFound 0
 
 module _ (y : ℕ) (ss : Segments) where
+  -- the number: 5 for key 0, else 0
   pub looked-number : lookedUp y ss .number ≡ (if eqb y 0 then 5 else 0)
   unfolding lookedUp
   looked-number = go (eqb y 0) (member y (keys ss))
@@ -25,6 +25,7 @@ module _ (y : ℕ) (ss : Segments) where
       go false true = refl
       go false false = refl
 
+  -- present, as the set has it
   pub looked-present : lookedUp y ss .present ≡ (if eqb y 0 then false else set.has y (keys ss))
   unfolding lookedUp
   looked-present = rw (has-member y (keys ss)) (go (eqb y 0) (member y (keys ss)))

@@ -1,28 +1,27 @@
 -- Scan is answered as the plain set answers, and a scan into an empty output.
-use mathlib.Core.Path.{_≡_, refl, sym, ap, ap₂, _∙_, subst}
-use mathlib.Core.Bool.{Bool, true, false, not}
-use mathlib.Core.Logic.{_⊎_, inl, inr, _↔_}
+use mathlib.Core.Path.{_≡_, refl, sym, ap, _∙_, subst}
+use mathlib.Core.Bool.{not}
+use mathlib.Core.Logic.{inl, inr, _↔_}
 use mathlib.Core.List.{List, [], _∷_, _++_, List·Memᴰ as Mem, List·Memᴰ·head as here, List·Memᴰ·tail as there}
-use mathlib.Core.List.{List·Memᴰ·not-nil as nowhere, List·Memᴰ·cases-cons as mem-cases, Memᴰ·append-right as in-right}
-use Prim.Native.Nat.{ℕ, zero, suc, _≤_, _<_}
+use mathlib.Core.List.{List·Memᴰ·not-nil as nowhere, List·Memᴰ·cases-cons as mem-cases}
+use Prim.Native.Nat.{ℕ, suc, _≤_, _<_}
 use native.Mathlib.Nat.{le-refl}
 use native.Mathlib.Decide.{decLt}
 use native.Mathlib.Omega.{arith}
-use lib.Dec.{T, ltb, eqb, ltb→lt, lt→ltb}
+use lib.Dec.{T, ltb, ltb→lt, lt→ltb}
 use borrow.Author.Tests.{lt-ltb, le-ltb}
 use lib.ListN.{length, take, drop, getD}
 use lib.Seq.{length-take-le, take-all, split-at}
-use Rattle.lists.specs.Choice.{if_then_else_}
 use Rattle.lists.specs.Lists.{All, anyOf}
 use Rattle.lists.proofs.Tests.{is-true, is-false, le→nltb}
 use Rattle.lists.proofs.Only.{mem-only, none-any, any-some, some-any}
 use Rattle.lists.proofs.Members.{at-mem}
 use Rattle.slots.specs.Segments.{Segments, keys}
-use Rattle.slots.specs.Keys.{Rising, member, above, segmentOf}
+use Rattle.slots.specs.Keys.{Rising, above}
 use Rattle.slots.proofs.Rising.{only-rising, rising-across, above-mem}
-use Rattle.rules.specs.Looking.{Scanned, lastOr, lookedUp, scanned}
+use Rattle.rules.specs.Looking.{lastOr, scanned}
 use Rattle.rules.specs.PlainSet as set
-use Rattle.rules.proofs.SetLaws.{has-member, above-beyond}
+use Rattle.rules.proofs.SetLaws.{above-beyond}
 
 -- THE LAST of a rising list, or what stands before it
 last-mem : (a : ℕ) (xs : List ℕ) → Mem (lastOr a xs) (a ∷ xs)
@@ -79,7 +78,7 @@ module _ (a : ℕ) (ks : List ℕ) (h : Rising ks) where
         | no p ↦ rw (take-all n (above a ks) (omega arith)) (is-false _ none-left ∙ sym (le-ltb _ _ (le-refl (length (above a ks)))))
       ]
 
--- what a scan tells, part by part
+-- what a scan tells, part by part: the page that is written, its number of keys, the output and more
 module _ (a : ℕ) (ss : Segments) (out : List ℕ) where
   abbrev pub page : List ℕ
   page = take (length out) (set.beyond a (keys ss))

@@ -1,22 +1,21 @@
 -- The plain set is a set: what it has, and what add, remove and beyond leave.
 use mathlib.Core.Path.{_≡_, sym, subst}
-use mathlib.Core.Bool.{Bool, true, false, not}
+use mathlib.Core.Bool.{Bool, true, false}
 use mathlib.Core.Logic.{_⊎_, inl, inr, _≢_, _↔_}
 use mathlib.Core.List.{List, [], _∷_, List·Memᴰ as Mem, List·Memᴰ·head as here, List·Memᴰ·tail as there}
-use mathlib.Core.List.{List·Memᴰ·not-nil as nowhere, List·Memᴰ·cases-cons as mem-cases, List·Memᴰ·append-cases as in-either}
-use Prim.Native.Nat.{ℕ, _≤_, _<_}
-use native.Mathlib.Nat.{lt-trans}
+use mathlib.Core.List.{List·Memᴰ·cases-cons as mem-cases, List·Memᴰ·append-cases as in-either}
+use Prim.Native.Nat.{ℕ}
 use native.Mathlib.Omega.{arith}
-use lib.Dec.{T, ltb, eqb, ltb→lt, lt→ltb, nltb→le, eqb→eq}
+use lib.Dec.{T, ltb, eqb, lt→ltb, eqb→eq}
 use Rattle.lists.specs.Choice.{if_then_else_}
-use Rattle.lists.proofs.Tests.{neqb→ne}
+use Rattle.lists.proofs.Tests.{tested}
 use Rattle.lists.proofs.Only.{mem-only}
-use Rattle.slots.specs.Keys.{Rising, below, cut}
-use Rattle.slots.proofs.Rising.{only-rising, below-mem, above-mem, cut-rising, cut-mem, mem-cut}
+use Rattle.slots.specs.Keys.{Rising, member, below, cut}
+use Rattle.slots.proofs.Rising.{only-rising, put-rising, below-mem, above-mem, cut-rising, cut-mem, mem-cut}
 use Rattle.slots.proofs.Keys.{member→mem, mem→member}
 use Rattle.rules.specs.Demand2.{IsSet}
 use Rattle.rules.specs.PlainSet as set
-use Rattle.rules.proofs.SetLaws.{has-member, above-beyond, cut-remove}
+use Rattle.rules.proofs.SetLaws.{has-member, above-beyond, add-same, put-add, cut-remove}
 
 module _ (y : ℕ) where
   -- the keys of a set with y added
@@ -35,15 +34,13 @@ module _ (y : ℕ) where
         λ s. elim s [ inl e ↦ there (ih k .1 (inl e)) | inr n ↦ elim (mem-cases n) [ inl e ↦ here e | inr o ↦ there (ih k .1 (inr o)) ] ],
       )
 
-  -- and they rise
+  -- a rising list with y added rises
   add-rising : (ks : List ℕ) → Rising ks → Rising (set.add y ks)
-  add-rising [] h = (λ k m. absurd (nowhere m), tt)
-  add-rising (j ∷ ks) h = go (ltb y j) (eqb y j) (ltb→lt y j) (nltb→le y j) (neqb→ne y j) (add-rising ks (h .1))
-    where
-      go : (b c : Bool) → (T b → y < j) → (T (not b) → j ≤ y) → (T (not c) → y ≢ j) → Rising (set.add y ks) → Rising (if b then y ∷ j ∷ ks else if c then j ∷ ks else j ∷ set.add y ks)
-      go true c p q r ih = (λ k m. elim (mem-cases m) [ inl e ↦ rw e (p tt) | inr n ↦ lt-trans (p tt) (h .0 k n) ], h)
-      go false true p q r ih = h
-      go false false p q r ih = (λ k m. elim (added ks k .0 m) [ inl e ↦ omega (arith, q tt, r tt) | inr n ↦ h .0 k n ], ih)
+  add-rising ks h =
+      elim (tested (member y ks)) [
+        | inl t ↦ subst Rising (sym (add-same y ks h (member→mem y ks t))) h
+        | inr t ↦ subst Rising (put-add y ks h t) (put-rising y ks h)
+      ]
 
   -- a key taken out of a rising list is gone, the others stay
   removed : (ks : List ℕ) → Rising ks → (k : ℕ) → Mem k (set.remove y ks) ↔ ((k ≢ y) × Mem k ks)
@@ -52,7 +49,7 @@ module _ (y : ℕ) where
       other : Mem k (cut y ks) → k ≢ y
       other m = elim (in-either (below y ks) m) [ inl n ↦ omega (arith, below-mem y ks k n .0) | inr n ↦ omega (arith, above-mem y ks k n .0) ]
 
--- every part of it
+-- the statement of the specs, whole
 pub isSet : IsSet
 isSet = record {
   rises = λ y ks h. (add-rising y ks h, subst Rising (cut-remove y ks h) (cut-rising y ks h));

@@ -1,8 +1,9 @@
 -- The rules' words for keys (member, put, cut, above) agree with the plain set's (has, add, remove, beyond).
 use mathlib.Core.Path.{_≡_, refl, sym, ap, _∙_}
 use mathlib.Core.Bool.{Bool, true, false, not, _||_}
-use mathlib.Core.List.{List, [], _∷_, _++_, List·Memᴰ·head as here}
-use mathlib.Core.Logic.{_≢_}
+use mathlib.Core.Logic.{inl, inr, _≢_}
+use mathlib.Core.List.{List, [], _∷_, _++_}
+use mathlib.Core.List.{List·Memᴰ as Mem, List·Memᴰ·head as here, List·Memᴰ·not-nil as nowhere, List·Memᴰ·cases-cons as mem-cases}
 use Prim.Native.Nat.{ℕ, _<_}
 use native.Mathlib.Nat.{le-of-lt, lt-trans}
 use native.Mathlib.Decide.{decLt}
@@ -51,6 +52,15 @@ put-add y (k ∷ ks) h t =
       | no p ↦
           let q : k < y = omega arith in
           rw (le-ltb y k (le-of-lt q), ne-eqb y k (omega arith), lt-ltb k y q) (ap {B = List ℕ} (λ r. k ∷ r) (put-add y ks (h .1) (neither (eqb y k) (member y ks) t .1)))
+    ]
+
+-- a key that is there, added again
+pub add-same : (y : ℕ) (ks : List ℕ) → Rising ks → Mem y ks → set.add y ks ≡ ks
+add-same y [] h m = absurd (nowhere m)
+add-same y (k ∷ ks) h m =
+    elim (mem-cases m) [
+      | inl e ↦ rw (le-ltb y k (omega arith), eq-eqb y k e) refl
+      | inr n ↦ let q : k < y = h .0 y n in rw (le-ltb y k (le-of-lt q), ne-eqb y k (omega arith)) (ap {B = List ℕ} (λ r. k ∷ r) (add-same y ks (h .1) n))
     ]
 
 -- a key taken out, there or not

@@ -9,3 +9,7 @@ pub mod Sizes
 pub mod Demand3
 pub mod Sums
 pub mod OwnCases
+pub mod SetLaws
+pub mod PlainSet
+pub mod SetScan
+pub mod SetLookup

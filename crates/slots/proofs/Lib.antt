@@ -1,2 +1,5 @@
 pub mod Heights
 pub mod Orders
+pub mod Marks
+pub mod Live
+pub mod Render

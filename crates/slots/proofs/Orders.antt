@@ -183,3 +183,10 @@ equal-keys = refl
 gap-ends : orderOf (5 ∷ replicate 63 0 ++ 6 ∷ replicate 63 0) ≡ Kept
 unfolding orderOf
 gap-ends = refl
+
+-- what holds of slots holds of those after the first segment
+pub ordered-drop : (xs : List ℕ) (n : ℕ) → Ordered xs → Ordered (drop n xs)
+ordered-drop xs n o i j l = rw (getD-drop n xs i 0, getD-drop n xs j 0) (o (n + i) (n + j) (omega arith))
+
+pub solid-drop : (xs : List ℕ) → Solid xs → Solid (drop 64 xs)
+solid-drop xs s i j l e = rw (getD-drop 64 xs i 0, getD-drop 64 xs j 0) (s (64 + i) (64 + j) (omega arith) (omega arith))

@@ -1,18 +1,26 @@
 -- Heights: 64 × 2^h slots have height h, no other number of slots has one, and none has two.
 use mathlib.Core.Path.{_≡_, refl}
-use mathlib.Core.Bool.{not}
 use mathlib.Core.Logic.{_⊎_, inl, inr, _≢_}
 use mathlib.Core.Option.{Option, none, some, Option·getD}
 use Prim.Native.Nat.{ℕ, zero, suc, _*_, _^_, _≤_, _<_}
 use native.Mathlib.Nat.{pow-le-pow-right, two-pow-succ, one-le-pow}
 use native.Mathlib.Decide.{decLt}
 use native.Mathlib.Omega.{arith}
-use lib.Dec.{T, eqb, eqb→eq}
+use lib.Dec.{eqb, eqb→eq}
 use Rattle.lists.specs.Search.{first}
 use Rattle.lists.proofs.Tests.{neqb→ne}
-use Rattle.lists.proofs.Computed.{allBelow, below-at}
-use Rattle.lists.proofs.Search.{First, Firsts, firsts}
+use Rattle.lists.proofs.Computed.{below-at}
+use Rattle.lists.proofs.Search.{Firsts, firsts}
 use Rattle.slots.specs.Segments.{heightOf}
+
+-- the heights end at 6, and begin at 1
+too-high : heightOf (64 * 2 ^ 7) ≡ 0
+unfolding heightOf
+too-high = refl
+
+too-low : heightOf 64 ≡ 0
+unfolding heightOf
+too-low = refl
 
 -- 64 × 2^h slots have height h
 pub height-is : (h : ℕ) → 1 ≤ h → h ≤ 6 → heightOf (64 * 2 ^ h) ≡ h

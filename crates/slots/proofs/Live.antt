@@ -1,12 +1,11 @@
 -- The live keys rise strictly where the slots are in order, and only there.
-use mathlib.Core.Path.{_≡_, refl, sym, subst}
+use mathlib.Core.Path.{refl, sym, subst}
 use mathlib.Core.Logic.{_≢_}
-use mathlib.Core.List.{List, [], _∷_, List·Memᴰ as Mem}
+use mathlib.Core.List.{List, [], _∷_}
 use Prim.Native.Nat.{ℕ, zero, suc, _<_}
 use native.Mathlib.Nat.{suc-ne-zero}
 use native.Mathlib.Omega.{arith}
 use borrow.Author.Tests.{ne-eqb}
-use lib.ListN.{length}
 use Rattle.lists.specs.Lists.{All}
 use Rattle.lists.proofs.Tests.{neqb→ne}
 use Rattle.lists.proofs.Only.{only-mem}
@@ -20,6 +19,7 @@ use Rattle.slots.proofs.Marks.{present}
 pub live-key : (xs : List ℕ) → All (λ k. 0 < k) (live xs)
 live-key xs k m = omega (arith, neqb→ne k 0 (only-mem isKey xs k m .0))
 
+-- in order, so rising
 pub ordered-rising : (xs : List ℕ) → Ordered xs → Rising (live xs)
 ordered-rising [] o = tt
 ordered-rising (x ∷ xs) o = go x o (ordered-rising xs (λ i j l. o (suc i) (suc j) (omega arith)))
@@ -34,6 +34,7 @@ ordered-rising (x ∷ xs) o = go x o (ordered-rising xs (λ i j l. o (suc i) (su
             let t = present xs k h .1 m in
             subst (λ (z : ℕ). suc x < z) (t .2) (o 0 (suc (t .0)) (omega arith) (omega arith) (subst (λ (z : ℕ). z ≢ 0) (sym (t .2)) h))
 
+-- rising, so in order
 pub rising-ordered : (xs : List ℕ) → Rising (live xs) → Ordered xs
 rising-ordered [] r = λ i j l p q. absurd (p refl)
 rising-ordered (x ∷ xs) r = go x r (rising-ordered xs)

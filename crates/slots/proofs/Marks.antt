@@ -1,19 +1,18 @@
 -- Where a key is: in a slot, and in that slot's segment.
-use mathlib.Core.Path.{_≡_, refl, sym, ap, _∙_, subst}
-use mathlib.Core.Bool.{Bool, true, false, not}
+use mathlib.Core.Path.{_≡_, sym, ap, _∙_, subst}
+use mathlib.Core.Bool.{not}
 use mathlib.Core.Logic.{_≢_, _↔_}
-use mathlib.Core.List.{List, [], _∷_, map, List·Memᴰ as Mem}
+use mathlib.Core.List.{List, map, List·Memᴰ as Mem}
 use Prim.Native.Nat.{ℕ, zero, suc, _+_, _-_, _*_, _/_, _≤_, _<_}
 use native.Mathlib.Decide.{decLt}
 use native.Mathlib.Omega.{arith}
 use lib.Dec.{T, not-T, eqb, eqb→eq, eqb-refl}
 use borrow.Author.Tests.{ne-eqb}
-use lib.ListN.{length, take, drop, getD, length-take, length-drop}
+use lib.ListN.{length, take, drop, length-take, length-drop}
 use lib.Seq.{getD-take, getD-drop}
-use Rattle.lists.specs.Choice.{if_then_else_}
 use Rattle.lists.specs.Lists.{parts}
 use Rattle.lists.specs.Search.{placeBy}
-use Rattle.lists.proofs.Tests.{is-true, is-false, neqb→ne, ne→neqb}
+use Rattle.lists.proofs.Tests.{is-true, is-false, ne→neqb}
 use Rattle.lists.proofs.Members.{mem-at, at-mem}
 use Rattle.lists.proofs.Only.{only-mem, mem-only, any-some, some-any}
 use Rattle.slots.specs.Segments.{isKey, live, segmentsOf}
@@ -23,11 +22,10 @@ use Rattle.slots.proofs.Orders.{Ordered, ordered-drop}
 
 -- the live keys are the keys in the slots
 pub present : (xs : List ℕ) (y : ℕ) → y ≢ 0 → ((i : ℕ) × (i < length xs) × (slotAt xs i ≡ y)) ↔ Mem y (live xs)
-present xs y h =
-    (
-      λ p. mem-only isKey xs y (subst (λ (z : ℕ). Mem z xs) (p .2) (at-mem xs (p .0) 0 (p .1))) (ne→neqb y 0 h),
-      λ m. mem-at y xs 0 (only-mem isKey xs y m .1),
-    )
+present xs y h = (
+  λ p. mem-only isKey xs y (subst (λ (z : ℕ). Mem z xs) (p .2) (at-mem xs (p .0) 0 (p .1))) (ne→neqb y 0 h),
+  λ m. mem-at y xs 0 (only-mem isKey xs y m .1),
+)
 
 -- a key is among the first 64 slots where it is in one of them, and there only
 module _ (xs : List ℕ) (o : Ordered xs) (t : ℕ) (h : slotAt xs t ≢ 0) (l : t < length xs) where
@@ -67,7 +65,7 @@ part-at (suc n) xs e o t l h =
         let i : 64 + (t - 64) ≡ t = omega arith in
         let q : slotAt (drop 64 xs) (t - 64) ≡ slotAt xs t = getD-drop 64 xs (t - 64) 0 ∙ ap (λ (k : ℕ). slotAt xs k) i in
         let r : placeBy (member (slotAt xs t)) (map live (parts 64 n (drop 64 xs))) ≡ (t - 64) / 64 =
-            rw q at (rec (omega (arith, length-drop 64 xs)) (subst (λ (z : ℕ). z ≢ 0) (sym q) h)) in
+        rw q at (rec (omega (arith, length-drop 64 xs)) (subst (λ (z : ℕ). z ≢ 0) (sym q) h)) in
         rw (is-false (member (slotAt xs t) (live (take 64 xs))) (late xs o t h l p)) (omega arith)
 
 -- a key's segment is that of its slot

@@ -1,13 +1,13 @@
 -- What the reading of the slots says of single slots: keys rise, and no key stands after a gap of its segment.
 use mathlib.Core.Path.{_≡_, refl, sym, ap, _∙_, subst}
-use mathlib.Core.Bool.{Bool, true, false, _&&_, _||_, not}
+use mathlib.Core.Bool.{Bool, _||_, not}
 use mathlib.Core.Logic.{_⊎_, inl, inr, _≢_}
 use mathlib.Core.Option.{Option, none, some}
-use mathlib.Core.List.{List, [], _∷_, _++_, List·Memᴰ as Mem}
-use Prim.Native.Nat.{ℕ, zero, suc, _+_, _-_, _*_, _/_, _≤_, _<_}
-use native.Mathlib.Decide.{decLt, decLe}
+use mathlib.Core.List.{List, _∷_, _++_, List·Memᴰ as Mem}
+use Prim.Native.Nat.{ℕ, _+_, _-_, _*_, _/_, _≤_, _<_}
+use native.Mathlib.Decide.{decLt, ℕ-discrete}
 use native.Mathlib.Omega.{arith}
-use lib.Dec.{T, T-not, leb, eqb, leb→le, le→leb, eqb→eq, nleb→lt}
+use lib.Dec.{T, T-not, leb, eqb, leb→le, le→leb, eqb→eq}
 use lib.ListN.{length, take, drop, getD, replicate, length-take, length-drop, List·getD-eq-default}
 use lib.Seq.{getD-take, getD-drop}
 use Rattle.lists.specs.Choice.{if_then_else_}
@@ -21,6 +21,30 @@ use Rattle.slots.specs.declared.Order.{Order}
 use Rattle.slots.specs.declared.Order.the-variants.{Kept, NotRising, AfterGap}
 use Rattle.slots.specs.Segments.{isKey, live}
 use Rattle.slots.specs.Orders.{slotAt, notRising, afterGap, orderOf, isKept}
+
+-- COMPUTED CASES
+-- the first fault is told, whichever it is
+first-falls : orderOf (5 ∷ 3 ∷ 0 ∷ 7 ∷ replicate 124 0) ≡ NotRising 1
+unfolding orderOf
+first-falls = refl
+
+first-gap : orderOf (5 ∷ 0 ∷ 7 ∷ 6 ∷ replicate 124 0) ≡ AfterGap 2
+unfolding orderOf
+first-gap = refl
+
+-- of a slot with both faults, the order
+order-before-gap : orderOf (5 ∷ 0 ∷ 3 ∷ replicate 125 0) ≡ NotRising 2
+unfolding orderOf
+order-before-gap = refl
+
+-- a key may not come twice, and a gap ends with its segment
+equal-keys : orderOf (5 ∷ 5 ∷ replicate 126 0) ≡ NotRising 1
+unfolding orderOf
+equal-keys = refl
+
+gap-ends : orderOf (5 ∷ replicate 63 0 ++ 6 ∷ replicate 63 0) ≡ Kept
+unfolding orderOf
+gap-ends = refl
 
 -- IN WORDS ABOUT SINGLE SLOTS
 -- keys rise from slot to slot, gaps passed over
@@ -43,7 +67,7 @@ pub in-list : (xs : List ℕ) (i : ℕ) → slotAt xs i ≢ 0 → i < length xs
 in-list xs i h = elim (decLt i (length xs)) [ yes l ↦ l | no l ↦ absurd (h (List·getD-eq-default xs 0 (omega arith))) ]
 
 -- THE TESTS
--- what stands among the slots from a up to j
+-- what is among the slots from a up to j has a place there, and the other way round
 placed : (xs : List ℕ) (a j k : ℕ) → Mem k (drop a (take j xs)) → (i : ℕ) × (a ≤ i) × (i < j) × (slotAt xs i ≡ k)
 placed xs a j k m = go (mem-at k (drop a (take j xs)) 0 m)
   where
@@ -60,6 +84,7 @@ stands xs a i j p q r =
     (at-mem (drop a (take j xs)) (i - a) 0 (omega (arith, length-drop a (take j xs), length-take j xs)))
 
 module _ (xs : List ℕ) (j : ℕ) where
+  -- what a test that passes says, and that it passes
   falls : T (notRising xs j) → (i : ℕ) × Falls xs i j
   falls t = go (any-some (leb (slotAt xs j)) (live (take j xs)) (and-right (isKey (slotAt xs j)) (anyOf (leb (slotAt xs j)) (live (take j xs))) t))
     where
@@ -122,30 +147,25 @@ module _ (xs : List ℕ) where
   unfolding orderOf
   kept→ = go (first fault 0 (length xs)) (firsts fault 0 (length xs))
     where
-      none-falls : ((j : ℕ) → 0 ≤ j → j < 0 + length xs → T (not (fault j))) → Ordered xs
+      none-falls : ((j : ℕ) → slotAt xs j ≢ 0 → ¬ (T (fault j))) → Ordered xs
       none-falls f i j l p q =
           elim (decLt (slotAt xs i) (slotAt xs j)) [
             | yes r ↦ r
-            | no r ↦ absurd (
-                T-not (fault j) (f j (omega arith) (omega (arith, in-list xs j q)))
-                (or-left (notRising xs j) (afterGap xs j) (falling xs j i (l, p, q, omega arith)))
-                )
+            | no r ↦ absurd (f j q (or-left (notRising xs j) (afterGap xs j) (falling xs j i (l, p, q, omega arith))))
           ]
 
-      none-gaps : ((j : ℕ) → 0 ≤ j → j < 0 + length xs → T (not (fault j))) → Solid xs
+      none-gaps : ((j : ℕ) → slotAt xs j ≢ 0 → ¬ (T (fault j))) → Solid xs
       none-gaps f i j l e z =
-          elim (tested (eqb (slotAt xs j) 0)) [
-            | inl t ↦ eqb→eq (slotAt xs j) 0 t
-            | inr t ↦
-                let q : slotAt xs j ≢ 0 = neqb→ne (slotAt xs j) 0 t in
-                absurd (
-                T-not (fault j) (f j (omega arith) (omega (arith, in-list xs j q)))
-                (or-right (notRising xs j) (afterGap xs j) (gapping xs j i (l, e, z, q)))
-                )
+          elim (ℕ-discrete (slotAt xs j) 0) [
+            | yes r ↦ r
+            | no q ↦ absurd (f j q (or-right (notRising xs j) (afterGap xs j) (gapping xs j i (l, e, z, q))))
           ]
+
+      none-at : ((j : ℕ) → 0 ≤ j → j < 0 + length xs → T (not (fault j))) → (j : ℕ) → slotAt xs j ≢ 0 → ¬ (T (fault j))
+      none-at f j q = T-not (fault j) (f j (omega arith) (omega (arith, in-list xs j q)))
 
       go : (r : Option ℕ) → Firsts fault 0 (length xs) r → T (isKept (read r)) → Ordered xs × Solid xs
-      go none f t = (none-falls f, none-gaps f)
+      go none f t = (none-falls (none-at f), none-gaps (none-at f))
       go (some j) f t = absurd (T-not (isKept (read (some j))) (either (λ (o : Order). T (not (isKept o))) (notRising xs j) tt tt) t)
 
   -- and where there is none, the reading is kept
@@ -160,31 +180,8 @@ module _ (xs : List ℕ) where
             ]
       ]
 
--- COMPUTED CASES
--- the first fault is told, whichever it is
-first-falls : orderOf (5 ∷ 3 ∷ 0 ∷ 7 ∷ replicate 124 0) ≡ NotRising 1
-unfolding orderOf
-first-falls = refl
-
-first-gap : orderOf (5 ∷ 0 ∷ 7 ∷ 6 ∷ replicate 124 0) ≡ AfterGap 2
-unfolding orderOf
-first-gap = refl
-
--- of a slot with both faults, the order
-order-before-gap : orderOf (5 ∷ 0 ∷ 3 ∷ replicate 125 0) ≡ NotRising 2
-unfolding orderOf
-order-before-gap = refl
-
--- a key may not come twice, and a gap ends with its segment
-equal-keys : orderOf (5 ∷ 5 ∷ replicate 126 0) ≡ NotRising 1
-unfolding orderOf
-equal-keys = refl
-
-gap-ends : orderOf (5 ∷ replicate 63 0 ++ 6 ∷ replicate 63 0) ≡ Kept
-unfolding orderOf
-gap-ends = refl
-
--- what holds of slots holds of those after the first segment
+-- THE SLOTS FURTHER ON
+-- what holds of slots holds of those after the first n, or after the first segment
 pub ordered-drop : (xs : List ℕ) (n : ℕ) → Ordered xs → Ordered (drop n xs)
 ordered-drop xs n o i j l = rw (getD-drop n xs i 0, getD-drop n xs j 0) (o (n + i) (n + j) (omega arith))
 

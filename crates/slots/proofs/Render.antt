@@ -1,74 +1,27 @@
 -- Slots and segments: slots whose order is kept are the render of their segments, and segments are those of their render.
-use mathlib.Core.Path.{_≡_, refl, sym, ap, ap₂, _∙_, subst}
-use mathlib.Core.Bool.{Bool, true, false, not}
-use mathlib.Core.Logic.{_⊎_, inl, inr, _≢_}
-use mathlib.Core.List.{List, [], _∷_, _++_, map, append-nil, List·Memᴰ as Mem, List·Memᴰ·head as here, List·Memᴰ·tail as there}
+use mathlib.Core.Path.{_≡_, refl, sym, ap, ap₂, _∙_}
+use mathlib.Core.Logic.{inl, inr}
+use mathlib.Core.List.{List, [], _∷_, _++_, map, List·Memᴰ·head as here, List·Memᴰ·tail as there}
 use mathlib.Core.List.{List·Memᴰ·not-nil as nowhere, List·Memᴰ·cases-cons as mem-cases, Memᴰ·append-left as in-left, Memᴰ·append-right as in-right}
-use Prim.Native.Nat.{ℕ, zero, suc, _+_, _-_, _*_, _/_, _%_, _≤_, _<_}
-use native.Mathlib.Nat.{sub-zero, suc-sub-suc, suc-ne-zero}
-use native.Mathlib.Decide.{decLt}
+use Prim.Native.Nat.{ℕ, zero, suc, _+_, _*_, _/_, _%_, _≤_, _<_}
 use native.Mathlib.Omega.{arith}
-use lib.Dec.{T, eqb}
-use borrow.Author.Tests.{ne-eqb}
-use lib.ListN.{length, take, drop, getD, replicate, length-append, length-take, length-drop, length-replicate, length-map, take-append-drop, replicate-append-replicate, List·getD-eq-default, List·getD-append}
-use lib.Seq.{length-take-le, take-at, drop-at, getD-take, getD-drop, getD-append-add}
-use Rattle.lists.specs.Lists.{All, joined, only, padded, parts}
-use Rattle.lists.proofs.Tests.{neqb→ne, ne→neqb}
-use Rattle.lists.proofs.Members.{mem-at, at-mem, map-all}
-use Rattle.lists.proofs.Only.{only-append, only-all, only-mem, mem-only, only-length}
+use lib.Dec.{T}
+use lib.ListN.{length, take, drop, getD, replicate, length-drop, length-map, take-append-drop, replicate-append-replicate, List·getD-eq-default, List·getD-append}
+use lib.Seq.{length-take-le, getD-append-add}
+use Rattle.lists.specs.Lists.{All, joined, padded, parts}
+use Rattle.lists.proofs.Members.{map-all}
+use Rattle.lists.proofs.Only.{only-append, only-length}
 use Rattle.lists.proofs.Fill.{length-padded, getD-padded}
 use Rattle.lists.proofs.Parts.{joined-parts, part-length, parts-joined, length-parts, length-joined-parts}
 use Rattle.slots.specs.Segments.{isKey, live, Segments, keys, pad, render, segmentsOf}
-use Rattle.slots.specs.Keys.{Rising, Listed}
+use Rattle.slots.specs.Keys.{Listed}
 use Rattle.slots.specs.Orders.{slotAt, orderOf, isKept}
 use Rattle.slots.proofs.Orders.{Ordered, Solid, kept←, solid-drop}
 use Rattle.slots.proofs.Live.{live-key, ordered-rising, rising-ordered}
-
--- A SEGMENT'S SLOTS
--- gaps after a gap: only gaps
-all-gaps : (xs : List ℕ) → ((i : ℕ) → slotAt xs i ≡ 0) → (live xs ≡ []) × (replicate (length xs) 0 ≡ xs)
-all-gaps [] h = (refl, refl)
-all-gaps (x ∷ xs) h = go x (h 0) (all-gaps xs (λ i. h (suc i)))
-  where
-    go : (x : ℕ) → x ≡ 0 → (live xs ≡ []) × (replicate (length xs) 0 ≡ xs) → (live (x ∷ xs) ≡ []) × (0 ∷ replicate (length xs) 0 ≡ x ∷ xs)
-    go zero e r = (r .0, ap {B = List ℕ} (λ r. 0 ∷ r) (r .1))
-    go (suc x) e r = absurd (suc-ne-zero x e)
-
--- keys first, gaps after them
-filled : (xs : List ℕ) → ((i j : ℕ) → i < j → slotAt xs i ≡ 0 → slotAt xs j ≡ 0) → live xs ++ replicate (length xs - length (live xs)) 0 ≡ xs
-filled [] h = refl
-filled (x ∷ xs) h = go x h (filled xs (λ i j l. h (suc i) (suc j) (omega arith)))
-  where
-    go : (x : ℕ) → ((i j : ℕ) → i < j → slotAt (x ∷ xs) i ≡ 0 → slotAt (x ∷ xs) j ≡ 0) → live xs ++ replicate (length xs - length (live xs)) 0 ≡ xs
-        → live (x ∷ xs) ++ replicate (suc (length xs) - length (live (x ∷ xs))) 0 ≡ x ∷ xs
-    go zero h r =
-        let g = all-gaps xs (λ i. h 0 (suc i) (omega arith) refl) in
-        rw (g .0, sub-zero) (ap {B = List ℕ} (λ r. 0 ∷ r) (g .1))
-    go (suc x) h r = rw (ne-eqb (suc x) 0 (suc-ne-zero x), suc-sub-suc) (ap {B = List ℕ} (λ r. suc x ∷ r) r)
-
-pad-live : (c : List ℕ) → length c ≡ 64 → ((i j : ℕ) → i < j → slotAt c i ≡ 0 → slotAt c j ≡ 0) → pad 0 (live c) ≡ c
-unfolding padded
-pad-live c e h = ap (λ (n : ℕ). live c ++ replicate (n - length (live c)) 0) (sym e) ∙ filled c h
-
-live-gaps : (n : ℕ) → live (replicate n 0) ≡ []
-live-gaps zero = refl
-live-gaps (suc n) = live-gaps n
-
-live-pad : (ks : List ℕ) → All (λ k. 0 < k) ks → live (pad 0 ks) ≡ ks
-unfolding padded
-live-pad ks h =
-    only-append isKey ks (replicate (64 - length ks) 0)
-    ∙ ap₂ {C = List ℕ} _++_ (only-all isKey ks (λ k m. ne→neqb k 0 (omega (arith, h k m)))) (live-gaps (64 - length ks)) ∙ append-nil ks
-
--- in the first segment of solid slots, keys stand first
-solid-take : (xs : List ℕ) → Solid xs → (i j : ℕ) → i < j → slotAt (take 64 xs) i ≡ 0 → slotAt (take 64 xs) j ≡ 0
-solid-take xs s i j l =
-    elim (decLt j 64) [
-      | yes p ↦ rw (getD-take 64 xs i 0 (omega arith), getD-take 64 xs j 0 p) (s i j l (omega arith))
-      | no p ↦ λ e. List·getD-eq-default (take 64 xs) 0 (omega (arith, length-take 64 xs))
-    ]
+use Rattle.slots.proofs.Padded.{pad-live, live-pad, solid-take, past-keys}
 
 -- THE SEGMENTS OF SLOTS
+-- the keys of the parts are the keys of the whole
 live-joined : (css : List (List ℕ)) → keys (map live css) ≡ live (joined css)
 live-joined [] = refl
 live-joined (c ∷ css) = ap {B = List ℕ} (λ r. live c ++ r) (live-joined css) ∙ sym (only-append isKey c (joined css))
@@ -91,9 +44,11 @@ module _ (xs : List ℕ) (n : ℕ) (e : length xs ≡ 64 * n) where
   pub keys-segments : keys (segmentsOf xs) ≡ live xs
   keys-segments = rw segments-are (live-joined (parts 64 n xs) ∙ ap live (joined-parts 64 n xs e))
 
+  -- there are n of them
   pub length-segments : length (segmentsOf xs) ≡ n
   length-segments = rw segments-are (length-map (parts 64 n xs) live ∙ length-parts 64 n xs)
 
+  -- with at most 64 keys each
   pub sizes-segments : All (λ s. length s ≤ 64) (segmentsOf xs)
   sizes-segments =
       rw segments-are
@@ -112,6 +67,7 @@ module _ {A : Type 0} (z : A) where
   pads : (ss : List (List A)) → All (λ s. length s ≤ 64) ss → All (λ c. length c ≡ 64) (map (pad z) ss)
   pads ss h = map-all (λ (c : List A). length c ≡ 64) (pad z) ss (λ s m. length-padded 64 z s (h s m))
 
+  -- 64 slots for each segment
   pub length-render : (ss : List (List A)) → All (λ s. length s ≤ 64) ss → length (render z ss) ≡ 64 * length ss
   unfolding render
   length-render ss h = length-joined-parts 64 (map (pad z) ss) (pads ss h) ∙ ap (λ (n : ℕ). 64 * n) (length-map ss (pad z))
@@ -138,10 +94,6 @@ module _ {A : Type 0} (z : A) where
 lives : (ss : Segments) → All (λ k. 0 < k) (keys ss) → map live (map (pad 0) ss) ≡ ss
 lives [] h = refl
 lives (s ∷ ss) h = ap₂ {C = Segments} _∷_ (live-pad s (λ k m. h k (in-left (keys ss) m))) (lives ss (λ k m. h k (in-right s m)))
-
--- a gap in a segment is past its keys
-past-keys : (s : List ℕ) (b : ℕ) → All (λ k. 0 < k) s → slotAt s b ≡ 0 → length s ≤ b
-past-keys s b h e = elim (decLt b (length s)) [ yes l ↦ absurd (omega (arith, h (slotAt s b) (at-mem s b 0 l))) | no l ↦ omega arith ]
 
 keys-at : (ss : Segments) (a : ℕ) → All (λ k. 0 < k) (keys ss) → All (λ k. 0 < k) (getD ss a [])
 keys-at [] a h k m = absurd (nowhere m)

@@ -2,3 +2,9 @@ pub mod Windows
 pub mod Counts
 pub mod Rising
 pub mod Keys
+pub mod Heights
+pub mod Orders
+pub mod Marks
+pub mod Live
+pub mod Padded
+pub mod Render

@@ -13,3 +13,4 @@ pub mod SetLaws
 pub mod PlainSet
 pub mod SetScan
 pub mod SetLookup
+pub mod KeysKept

@@ -1,0 +1,2 @@
+-- The forecast's rule.
+use Prim.Native.Nat.{ℕ}

@@ -1,3 +1,4 @@
 pub mod Laws
 pub mod Ruled
+pub mod Origins
 pub mod Kept

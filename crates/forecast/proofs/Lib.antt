@@ -2,3 +2,5 @@ pub mod Laws
 pub mod Ruled
 pub mod Origins
 pub mod Kept
+pub mod Member
+pub mod Readings

@@ -4,3 +4,4 @@ pub mod Origins
 pub mod Kept
 pub mod Member
 pub mod Readings
+pub mod Faults

@@ -78,15 +78,15 @@ pub noted-ruled : (P : ℕ) (L : ℕ → Type 0) (x s : ℕ) (cs : List Cell) �
 noted-ruled P L x s cs R l p =
     elim (decLt (cellAt x cs) (length cs)) [
       | yes h ↦
-        elim (decLt (getD cs (cellAt x cs) zeroCell .count) P) [
-          | yes k ↦ subst (Ruled P L) (sym (noted-raised P x s cs h k)) (raised-ruled P L cs R (cellAt x cs) h k)
-          | no k ↦ subst (Ruled P L) (sym (noted-spent P x s cs h (omega arith))) (tailed-ruled P L cs R)
-        ]
+          elim (decLt (getD cs (cellAt x cs) zeroCell .count) P) [
+            | yes k ↦ subst (Ruled P L) (sym (noted-raised P x s cs h k)) (raised-ruled P L cs R (cellAt x cs) h k)
+            | no k ↦ subst (Ruled P L) (sym (noted-spent P x s cs h (omega arith))) (tailed-ruled P L cs R)
+          ]
       | no h ↦
-        elim (decLt (length cs) P) [
-          | yes k ↦ subst (Ruled P L) (sym (noted-new P x s cs (omega arith) k)) (new-ruled P L cs R x s l p (omega arith) k)
-          | no k ↦ subst (Ruled P L) (sym (noted-full P x s cs (omega arith) (omega arith))) (tailed-ruled P L cs R)
-        ]
+          elim (decLt (length cs) P) [
+            | yes k ↦ subst (Ruled P L) (sym (noted-new P x s cs (omega arith) k)) (new-ruled P L cs R x s l p (omega arith) k)
+            | no k ↦ subst (Ruled P L) (sym (noted-full P x s cs (omega arith) (omega arith))) (tailed-ruled P L cs R)
+          ]
     ]
 
 -- a delete drops its key's cell: the key need be live no more

@@ -126,8 +126,8 @@ from-without at cs h = (
         let e : k ≡ length (take at cs) + (k - at) = rw front (omega arith) in
         let d : suc at + (k - at) ≡ k + 1 = omega arith in
         marker-is _ _ (
-          ap (λ (j : ℕ). getD (take at cs ++ drop (suc at) cs) j zeroCell) e ∙ getD-append-add (take at cs) (drop (suc at) cs) (k - at) zeroCell
-          ∙ getD-drop (suc at) cs (k - at) zeroCell ∙ ap (λ (j : ℕ). getD cs j zeroCell) d
+        ap (λ (j : ℕ). getD (take at cs ++ drop (suc at) cs) j zeroCell) e ∙ getD-append-add (take at cs) (drop (suc at) cs) (k - at) zeroCell
+        ∙ getD-drop (suc at) cs (k - at) zeroCell ∙ ap (λ (j : ℕ). getD cs j zeroCell) d
         )
 
 -- every cell aimed anew

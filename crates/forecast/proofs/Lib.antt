@@ -1,0 +1,7 @@
+pub mod Laws
+pub mod Ruled
+pub mod Origins
+pub mod Kept
+pub mod Member
+pub mod Readings
+pub mod Faults

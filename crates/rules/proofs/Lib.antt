@@ -14,3 +14,4 @@ pub mod PlainSet
 pub mod SetScan
 pub mod SetLookup
 pub mod KeysKept
+pub mod Good

@@ -15,3 +15,4 @@ pub mod SetScan
 pub mod SetLookup
 pub mod KeysKept
 pub mod Good
+pub mod Checked

@@ -113,8 +113,11 @@ module _ (h : ℕ) (from : 1 ≤ h) (to : h ≤ 6) (R : Room) (G : Good (shares 
   fits : All (λ x. length x ≤ 64) (R .segments)
   fits x m = rw (ends h from to .0) at (G .sizes x m)
 
+  pub length-good : length (render 0 (R .segments)) ≡ 64 * 2 ^ h
+  length-good = length-render 0 (R .segments) fits ∙ ap (λ (n : ℕ). 64 * n) (G .proper .number)
+
   pub height-render : heightOf (length (render 0 (R .segments))) ≡ h
-  height-render = ap heightOf (length-render 0 (R .segments) fits ∙ ap (λ (n : ℕ). 64 * n) (G .proper .number)) ∙ height-is h from to
+  height-render = ap heightOf length-good ∙ height-is h from to
 
   pub room-render : roomOf (render 0 (R .segments)) (forecastOf (R .cells)) ≡ R
   room-render = λ i. record {

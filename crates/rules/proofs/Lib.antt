@@ -16,3 +16,4 @@ pub mod SetLookup
 pub mod KeysKept
 pub mod Good
 pub mod Checked
+pub mod Requests

@@ -3,15 +3,11 @@ use mathlib.Core.Path.{_≡_, refl}
 use mathlib.Core.List.{List, [], _∷_}
 use Prim.Native.Nat.{ℕ, zero, suc}
 use lib.ListN.{length}
-use Rattle.lists.specs.Lists.{without, padded}
-use Rattle.slots.specs.Segments.{Segments}
+use Rattle.lists.specs.Lists.{without}
 use Rattle.slots.specs.Keys.{segmentOf}
 use Rattle.forecast.specs.declared.Cell.{Cell}
-use Rattle.forecast.specs.declared.Forecast.{Forecast}
-use Rattle.forecast.specs.declared.Fault.the-variants.{Sound, TooMany, NotZero, Count, Repeated, NotLive, Misplaced}
-use Rattle.forecast.specs.Cells.{cell, zeroCell, forecastOf, weight}
+use Rattle.forecast.specs.Cells.{cell, weight}
 use Rattle.forecast.specs.Steps.{raised, tailed, noted, dropped, retargeted}
-use Rattle.forecast.specs.Faults.{faultAt, faultOf}
 
 -- PLACES
 -- noted, the cell in third place moves to second, its count one more; the others stay in order

@@ -1,14 +1,14 @@
 -- A forecast has no fault exactly where its cells keep the rule and name their markers' segments; else its first fault is a true one.
-use mathlib.Core.Path.{_≡_, refl, sym, ap, _∙_, subst}
+use mathlib.Core.Path.{_≡_, sym, ap, _∙_, subst}
 use mathlib.Core.Bool.{Bool, true, false, not}
 use mathlib.Core.Logic.{_⊎_, inl, inr, _≢_}
 use mathlib.Core.Option.{Option, none, some}
 use mathlib.Core.List.{List, List·Memᴰ as Mem}
-use Prim.Native.Nat.{ℕ, zero, suc, _+_, _-_, _≤_, _<_}
+use Prim.Native.Nat.{ℕ, _≤_, _<_}
 use native.Mathlib.Decide.{decLt}
 use native.Mathlib.Omega.{arith}
 use lib.Dec.{T, T-not, not-T, ltb, ltb→lt, nltb→le}
-use lib.ListN.{length, take, getD, length-take, List·getD-eq-default}
+use lib.ListN.{length, getD, length-take, List·getD-eq-default}
 use lib.Seq.{getD-take, length-take-le, ext-getD}
 use Rattle.lists.specs.Choice.{if_then_else_}
 use Rattle.lists.specs.Lists.{All, padded}
@@ -17,7 +17,7 @@ use Rattle.lists.proofs.Tests.{double-not}
 use Rattle.lists.proofs.Members.{mem-at, at-mem}
 use Rattle.lists.proofs.Search.{Firsts, firsts}
 use Rattle.lists.proofs.Fill.{getD-padded, length-padded}
-use Rattle.slots.specs.Segments.{Segments, keys}
+use Rattle.slots.specs.Segments.{Segments}
 use Rattle.slots.specs.Keys.{segmentOf}
 use Rattle.forecast.specs.declared.Cell.{Cell}
 use Rattle.forecast.specs.declared.Forecast.{Forecast}
@@ -31,9 +31,9 @@ use Rattle.forecast.proofs.Readings.{Marker, nth, BadBy, tooMany, noCou
 
 module _ (P : ℕ) (ss : Segments) (F : Forecast) where
   -- at most P cells are used, and each cell is fine
-  pub record AllFine : Type 0 where
-    pub few : F .used ≤ P
-    pub fine : (i : ℕ) → i < length (F .cells) → Fine P ss F i
+  record AllFine : Type 0 where
+    few : F .used ≤ P
+    fine : (i : ℕ) → i < length (F .cells) → Fine P ss F i
 
   fine-at : (i : ℕ) (f : Fault) → T (isSound f) → Says P ss F i f → Fine P ss F i
   fine-at i Sound t s = s

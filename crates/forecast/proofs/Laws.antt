@@ -1,13 +1,13 @@
 -- One law for each case of the forecast's definitions, so that nothing else has to open them.
-use mathlib.Core.Path.{_≡_, refl, sym, ap, _∙_}
+use mathlib.Core.Path.{_≡_, refl, ap}
 use mathlib.Core.Logic.{_≢_}
-use mathlib.Core.List.{List, [], _∷_, map}
-use Prim.Native.Nat.{ℕ, zero, suc, _+_, _-_, _≤_, _<_}
+use mathlib.Core.List.{List, _∷_, map}
+use Prim.Native.Nat.{ℕ, _+_, _-_, _≤_, _<_}
 use native.Mathlib.Omega.{arith}
-use borrow.Author.Tests.{lt-ltb, le-ltb, le-leb, lt-leb, eq-eqb, ne-eqb}
-use lib.Dec.{T, eqb→eq}
+use borrow.Author.Tests.{lt-ltb, le-ltb, le-leb, lt-leb, ne-eqb}
+use lib.Dec.{eqb→eq}
 use lib.ListN.{length, take, getD, set, List·getD-eq-default}
-use Rattle.lists.specs.Lists.{All, without, padded}
+use Rattle.lists.specs.Lists.{without, padded}
 use Rattle.lists.proofs.Tests.{eq→eqb}
 use Rattle.lists.proofs.Members.{at-mem}
 use Rattle.lists.proofs.Search.{place-passes, place-mem}
@@ -84,6 +84,7 @@ pub dropped-none : (x : ℕ) (cs : List Cell) → length cs ≤ cellAt x cs → 
 unfolding dropped
 dropped-none x cs h = without-past (cellAt x cs) cs h
 
+-- each cell is aimed
 pub retargeted-is : (place : ℕ → ℕ) (cs : List Cell) → retargeted place cs ≡ map (aimed place) cs
 unfolding retargeted
 retargeted-is place cs = refl
@@ -111,10 +112,12 @@ pub length-forecastOf : (cs : List Cell) → length cs ≤ 12 → length (foreca
 unfolding forecastOf
 length-forecastOf cs h = length-padded 12 zeroCell cs h
 
+-- the number used is theirs
 pub forecastOf-used : (cs : List Cell) → forecastOf cs .used ≡ length cs
 unfolding forecastOf
 forecastOf-used cs = refl
 
+-- the rest are zeros
 pub forecastOf-cells : (cs : List Cell) → forecastOf cs .cells ≡ padded 12 zeroCell cs
 unfolding forecastOf
 forecastOf-cells cs = refl

@@ -5,3 +5,5 @@ pub mod Kept
 pub mod Member
 pub mod Readings
 pub mod Faults
+pub mod Cases
+pub mod FaultCases

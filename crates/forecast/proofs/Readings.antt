@@ -1,16 +1,16 @@
 -- What a reading of one cell finds, in words: it is fine, or it is bad in one of six ways.
-use mathlib.Core.Path.{_≡_, refl, sym, ap, _∙_, subst}
+use mathlib.Core.Path.{_≡_, sym, ap, _∙_, subst}
 use mathlib.Core.Bool.{Bool, true, false, not, _&&_, _||_}
 use mathlib.Core.Logic.{_⊎_, inl, inr, _≢_}
-use mathlib.Core.List.{List, List·Memᴰ as Mem}
-use Prim.Native.Nat.{ℕ, zero, suc, _≤_, _<_}
+use mathlib.Core.List.{List·Memᴰ as Mem}
+use Prim.Native.Nat.{ℕ, _≤_, _<_}
 use native.Mathlib.Omega.{arith}
 use lib.Dec.{T, T-not, leb, ltb, eqb, leb→le, nleb→lt, ltb→lt, nltb→le, eqb→eq}
-use lib.ListN.{length, take, getD, length-take}
+use lib.ListN.{length, take, getD}
 use lib.Seq.{getD-take, length-take-le}
 use Rattle.lists.specs.Choice.{if_then_else_}
-use Rattle.lists.specs.Lists.{All, anyOf}
-use Rattle.lists.proofs.Tests.{and-left, and-right, or-left, or-right, or-cases, neither, double-not, neqb→ne, eq→eqb}
+use Rattle.lists.specs.Lists.{anyOf}
+use Rattle.lists.proofs.Tests.{and-left, and-right, or-cases, neither, double-not, neqb→ne}
 use Rattle.lists.proofs.Members.{mem-at, at-mem}
 use Rattle.lists.proofs.Only.{any-none, any-some}
 use Rattle.slots.specs.Segments.{Segments, keys}
@@ -19,8 +19,8 @@ use Rattle.forecast.specs.declared.Cell.{Cell}
 use Rattle.forecast.specs.declared.Forecast.{Forecast}
 use Rattle.forecast.specs.declared.Fault.{Fault}
 use Rattle.forecast.specs.declared.Fault.the-variants.{Sound, TooMany, NotZero, Count, Repeated, NotLive, Misplaced}
-use Rattle.forecast.specs.Cells.{cell, zeroCell, marks}
-use Rattle.forecast.specs.Faults.{isZero, faultAt, isSound}
+use Rattle.forecast.specs.Cells.{zeroCell, marks}
+use Rattle.forecast.specs.Faults.{isZero, faultAt}
 use Rattle.forecast.proofs.Ruled.{Counted}
 use Rattle.forecast.proofs.Member.{member→mem, mem→member}
 

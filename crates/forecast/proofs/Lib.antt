@@ -2,7 +2,6 @@ pub mod Laws
 pub mod Ruled
 pub mod Origins
 pub mod Kept
-pub mod Member
 pub mod Readings
 pub mod Faults
 pub mod Cases

@@ -22,7 +22,7 @@ use Rattle.forecast.specs.declared.Fault.the-variants.{Sound, TooMany, N
 use Rattle.forecast.specs.Cells.{zeroCell, marks}
 use Rattle.forecast.specs.Faults.{isZero, faultAt}
 use Rattle.forecast.proofs.Ruled.{Counted}
-use Rattle.forecast.proofs.Member.{member→mem, mem→member}
+use Rattle.slots.proofs.Keys.{member→mem, mem→member}
 
 -- 0 for the front, or a live key
 abbrev pub Marker : Segments → ℕ → Type 0

@@ -17,3 +17,6 @@ pub mod KeysKept
 pub mod Good
 pub mod Checked
 pub mod Requests
+pub mod SetSteps
+pub mod Empty
+pub mod Demand2

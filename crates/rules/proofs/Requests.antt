@@ -18,9 +18,10 @@ use Rattle.rules.specs.declared.Request.{Request}
 use Rattle.rules.specs.Shares.{Lawful, shares}
 use Rattle.rules.specs.Placing.{Outcome, outcome}
 use Rattle.rules.specs.Checks.{sharesOf, check}
-use Rattle.rules.specs.Calls.{roomOf, request, unchanged, changed}
+use Rattle.rules.specs.Calls.{roomOf, Called, request, unchanged, changed}
 use Rattle.rules.specs.Demand1.{RequestKeeps}
 use Rattle.rules.proofs.Table.{lawful}
+use Rattle.rules.proofs.Accepted.{refused-is}
 use Rattle.rules.proofs.Good.{Good, good-next}
 use Rattle.rules.proofs.Checked.{Passed, passed, list-passes, checked, height-render, check-render, length-good}
 
@@ -49,10 +50,11 @@ module _ (q : Request) (slots : List ℕ) (F : Forecast) where
       go true p q = y (p tt)
       go false p q = n (q tt)
 
-  pub request-number : check slots F ≡ 0 → request q slots F .answer .number ≡ lent .answer .number
-  request-number e =
-      by-number (request q slots F .answer .number ≡ lent .answer .number) (λ n. ap (λ (c : _). c .answer .number) (request-accepted e n))
-      (λ n. ap (λ (c : _). c .answer .number) (request-refused e n))
+  -- the answer is the rules'
+  pub request-answer : check slots F ≡ 0 → request q slots F .answer ≡ lent .answer
+  request-answer e =
+      by-number (request q slots F .answer ≡ lent .answer) (λ n. ap (λ (c : Called). c .answer) (request-accepted e n))
+      (λ n. ap (λ (c : Called). c .answer) (request-refused e n) ∙ sym (ap (λ (o : Outcome). o .answer) (refused-is (sharesOf slots) q (roomOf slots F) n)))
 
   -- VALID STAYS VALID
   pub good-lent : check slots F ≡ 0 → Good (sharesOf slots) (lent .room)

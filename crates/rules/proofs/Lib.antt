@@ -1,4 +1,6 @@
 pub mod Table
+pub mod Sums
+pub mod OwnCases
 pub mod SharingOut
 pub mod Splits
 pub mod Climb
@@ -7,8 +9,6 @@ pub mod Accepted
 pub mod Moved
 pub mod Sizes
 pub mod Demand3
-pub mod Sums
-pub mod OwnCases
 pub mod SetLaws
 pub mod PlainSet
 pub mod SetScan

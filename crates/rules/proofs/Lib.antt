@@ -1,3 +1,5 @@
 pub mod Outcomes
 pub mod Refused
 pub mod Records
+pub mod Works
+pub mod BadRecords

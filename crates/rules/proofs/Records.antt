@@ -4,12 +4,12 @@ use mathlib.Core.Bool.{Bool, true, false, not}
 use mathlib.Core.Logic.{_≢_, _↔_}
 use mathlib.Core.List.{List, [], _∷_}
 use Prim.Native.Nat.{ℕ, zero, suc, _+_, _-_, _*_, _≤_, _<_}
-use native.Mathlib.Nat.{zero-add}
+use native.Mathlib.Nat.{zero-add, suc-add}
 use native.Mathlib.Decide.{decLe}
 use native.Mathlib.Omega.{arith}
 use lib.Dec.{ltb, eqb}
 use lib.ListN.{length, take, drop, getD, length-drop, length-take, drop-of-length-le}
-use lib.Seq.{drop-nil, drop-drop, take-take, getD-take, getD-drop, length-take-le}
+use lib.Seq.{take-nil, drop-nil, drop-drop, take-take, getD-take, getD-drop, length-take-le}
 use borrow.Author.Tests.{le-ltb, lt-ltb}
 use Rattle.lists.specs.Choice.{if_then_else_}
 use Rattle.lists.specs.Lists.{All}
@@ -101,8 +101,28 @@ bytes-of-good (suc n) bs h g = go (decLe 11 (length (drop (11 * n) bs)))
 -- a record is read from its own 11 bytes
 drop-take : (n m : ℕ) (bs : List ℕ) → drop n (take (n + m) bs) ≡ take m (drop n bs)
 drop-take zero m bs = rw zero-add
-drop-take (suc n) m bs = ?
+drop-take (suc n) m [] = simp (take-nil, drop-nil)
+drop-take (suc n) m (b ∷ bs) = rw suc-add (drop-take n m bs)
 
 pub request-take : (k : ℕ) (bs : List ℕ) → 11 ≤ k → 11 ≤ length bs → requestOf (take k bs) ≡ requestOf bs
 unfolding requestOf
-request-take k bs h e = ?
+request-take k bs h e =
+    let long : 11 ≤ length (take k bs) = omega (arith, length-take k bs) in
+    let h0 : 0 < k = omega arith in
+    let h1 : 1 < k = omega arith in
+    let h2 : 2 < k = omega arith in
+    rw (le-ltb (length (take k bs)) 11 long, le-ltb (length bs) 11 e, getD-take k bs 0 0 h0, getD-take k bs 1 0 h1, getD-take k bs 2 0 h2, key)
+  where
+    key : take 8 (drop 3 (take k bs)) ≡ take 8 (drop 3 bs)
+    key =
+        let c : k ≡ 3 + (k - 3) = omega arith in
+        ap (λ (j : ℕ). take 8 (drop 3 (take j bs))) c ∙ ap (take 8) (drop-take 3 (k - 3) bs) ∙ take-take 8 (k - 3) (drop 3 bs) (omega arith)
+
+-- the records of the first 11 * n bytes are the first n
+pub records-take : (n : ℕ) (bs : List ℕ) → 11 * n ≤ length bs → recordsOf (take (11 * n) bs) ≡ take n (recordsOf bs)
+records-take zero bs h = records-nil
+records-take (suc n) [] h = absurd (omega arith)
+records-take (suc n) (b ∷ bs) h =
+    let e : 11 * suc n ≡ suc (10 + 11 * n) = omega arith in
+    rw (e, records-cons b (take (10 + 11 * n) bs), records-cons b bs, drop-take 10 (11 * n) bs)
+    (ap₂ {C = List Request} _∷_ (request-take (suc (10 + 11 * n)) (b ∷ bs) (omega arith) (omega arith)) (records-take n (drop 10 bs) (omega (arith, length-drop 10 bs))))

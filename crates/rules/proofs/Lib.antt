@@ -2,4 +2,6 @@ pub mod Outcomes
 pub mod Refused
 pub mod Records
 pub mod Works
+pub mod Runs
+pub mod RunTells
 pub mod BadRecords

@@ -4,4 +4,5 @@ pub mod Records
 pub mod Works
 pub mod Runs
 pub mod RunTells
+pub mod Singly
 pub mod BadRecords

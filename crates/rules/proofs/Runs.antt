@@ -43,7 +43,7 @@ module _ (S : Shares) (allowance : ℕ) (bytes : List ℕ) (R : Room) where
   abbrev pub done : ℕ
   done = ran-works .n
 
-  length-done : length (take done (recordsOf bytes)) ≡ done
+  pub length-done : length (take done (recordsOf bytes)) ≡ done
   length-done = length-take-le done (recordsOf bytes) (ran-works .fits)
 
   pub done-worked : ran S allowance bytes R .tally .worked ≡ done

@@ -20,11 +20,6 @@ pub read-high-first : requestOf (0xA5 ∷ 0x5A ∷ 1 ∷ 0 ∷ 0 ∷ 0 ∷ 0 ∷
 unfolding requestOf
 read-high-first = refl
 
-pub bad : (q : Request) → T (isBad q) → q ≡ Bad
-bad (Insert y) t = absurd t
-bad (Delete y) t = absurd t
-bad Bad t = refl
-
 pub not-bad : (q : Request) → T (not (isBad q)) → q ≢ Bad
 not-bad q t e = T-not (isBad q) t (subst (λ (z : Request). T (isBad z)) (sym e) tt)
 

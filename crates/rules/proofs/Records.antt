@@ -1,22 +1,19 @@
 -- The records of a run's bytes: one every 11, the n-th at byte 11 * n.
 use mathlib.Core.Path.{_≡_, refl, sym, ap, ap₂, _∙_}
-use mathlib.Core.Bool.{Bool, true, false, not}
 use mathlib.Core.Logic.{_≢_, _↔_}
 use mathlib.Core.List.{List, [], _∷_}
 use Prim.Native.Nat.{ℕ, zero, suc, _+_, _-_, _*_, _≤_, _<_}
 use native.Mathlib.Nat.{zero-add, suc-add}
 use native.Mathlib.Decide.{decLe}
 use native.Mathlib.Omega.{arith}
-use lib.Dec.{ltb, eqb}
-use lib.ListN.{length, take, drop, getD, length-drop, length-take, drop-of-length-le}
+use lib.ListN.{length, take, drop, getD, length-drop, length-take}
 use lib.Seq.{take-nil, drop-nil, drop-drop, take-take, getD-take, getD-drop, length-take-le}
 use borrow.Author.Tests.{le-ltb, lt-ltb}
-use Rattle.lists.specs.Choice.{if_then_else_}
 use Rattle.lists.specs.Lists.{All}
 use Rattle.lists.proofs.Members.{at-mem}
 use Rattle.rules.specs.declared.Request.{Request}
-use Rattle.rules.specs.declared.Request.the-variants.{Insert, Delete, Bad}
-use Rattle.rules.specs.Runs.{requestOf, records, recordsOf, number, keyOf}
+use Rattle.rules.specs.declared.Request.the-variants.{Bad}
+use Rattle.rules.specs.Runs.{requestOf, records, recordsOf}
 
 -- enough is enough: a bound above the number of bytes bounds nothing
 records-enough : (n m : ℕ) (bs : List ℕ) → length bs ≤ n → length bs ≤ m → records n bs ≡ records m bs

@@ -2,20 +2,17 @@
 use mathlib.Core.Path.{_≡_, refl}
 use mathlib.Core.Bool.{Bool, true, false, not}
 use mathlib.Core.Logic.{_≢_}
-use mathlib.Core.List.{List, []}
-use Prim.Native.Nat.{ℕ}
+use mathlib.Core.List.{[]}
 use lib.Dec.{T, eqb, eqb→eq}
 use lib.ListN.{length, replicate}
 use Rattle.lists.specs.Choice.{if_then_else_}
 use Rattle.slots.specs.Segments.{heightOf, segmentsOf, keys}
 use Rattle.slots.specs.Keys.{member, segmentOf}
-use Rattle.forecast.specs.declared.Forecast.{Forecast}
 use Rattle.forecast.specs.Cells.{forecastOf}
-use Rattle.rules.specs.declared.Request.{Request}
 use Rattle.rules.specs.Placing.{Outcome, outcome}
 use Rattle.rules.specs.Looking.{Found, notFound, lookedUp, Scanned, scanned}
 use Rattle.rules.specs.Checks.{sharesOf, checkList, check}
-use Rattle.rules.specs.Calls.{roomOf, Made, make, lookup, scan, Called, unchanged, changed, request, run, worked, stoppedAtOnce}
+use Rattle.rules.specs.Calls.{roomOf, Made, make, lookup, scan, Called, unchanged, changed, request}
 use Rattle.rules.specs.Demand1.{RequestRefused, LookupRefused, ScanRefused, MakeRefused}
 
 -- an insert or delete

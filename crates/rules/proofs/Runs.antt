@@ -1,16 +1,13 @@
 -- A run over bytes: what it counts, where it stops, and that it leaves what the run over the bytes before its stop leaves.
-use mathlib.Core.Path.{_≡_, refl, sym, ap, _∙_, subst}
-use mathlib.Core.Bool.{not}
+use mathlib.Core.Path.{_≡_, refl, ap, _∙_}
 use mathlib.Core.List.{List}
-use Prim.Native.Nat.{ℕ, _+_, _*_, _≤_, _<_}
+use Prim.Native.Nat.{ℕ, _*_, _≤_, _<_}
 use native.Mathlib.Nat.{zero-add}
 use native.Mathlib.Decide.{decLt}
 use native.Mathlib.Omega.{arith}
-use lib.Dec.{eqb}
 use lib.ListN.{length, take}
 use lib.Seq.{length-take-le}
 use borrow.Author.Tests.{ne-eqb}
-use Rattle.lists.specs.Choice.{if_then_else_}
 use Rattle.forecast.specs.declared.Forecast.{Forecast}
 use Rattle.rules.specs.declared.Request.{Request}
 use Rattle.rules.specs.declared.Totals.{Totals}
@@ -19,9 +16,9 @@ use Rattle.rules.specs.Placing.{Room}
 use Rattle.rules.specs.Checks.{sharesOf, check}
 use Rattle.rules.specs.Runs.{recordsOf, Tally, nothing, Ran, stopped, work, ran}
 use Rattle.rules.specs.Calls.{roomOf, worked, run}
-use Rattle.rules.specs.Demand1.{RunRefused, SameBut, RunStops}
+use Rattle.rules.specs.Demand1.{RunRefused, RunStops}
 use Rattle.rules.proofs.Records.{byte-of-record, record-of-byte, bytes-of-good, records-take}
-use Rattle.rules.proofs.Works.{Works, works, tallies, tallies-worked, tallies-place}
+use Rattle.rules.proofs.Works.{Works, works, tallies-worked, tallies-place}
 
 -- refused by its check
 pub run-refused : RunRefused

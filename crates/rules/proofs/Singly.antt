@@ -1,14 +1,14 @@
 -- A run is its single requests one after the other, keeps a list valid, and stops as the rows tell: from the facts on valid lists.
-use mathlib.Core.Path.{_≡_, refl, sym, ap, ap₂, _∙_, subst}
+use mathlib.Core.Path.{_≡_, refl, sym, ap, ap₂, _∙_}
 use mathlib.Core.Bool.{Bool, true, false, not}
 use mathlib.Core.Logic.{_≢_}
 use mathlib.Core.List.{List, [], _∷_}
-use Prim.Native.Nat.{ℕ, _+_, _*_, _≤_}
+use Prim.Native.Nat.{ℕ, _+_, _*_, _^_, _≤_}
 use native.Mathlib.Omega.{arith}
 use lib.Dec.{T, ltb, eqb}
 use lib.ListN.{length, take}
 use Rattle.lists.specs.Choice.{if_then_else_}
-use Rattle.lists.proofs.Tests.{neqb→ne}
+use Rattle.lists.proofs.Tests.{either, neqb→ne}
 use Rattle.slots.specs.Segments.{heightOf, segmentsOf, render}
 use Rattle.forecast.specs.declared.Forecast.{Forecast}
 use Rattle.forecast.specs.Cells.{usedCells, forecastOf}
@@ -18,12 +18,12 @@ use Rattle.rules.specs.Shares.{Shares, shares}
 use Rattle.rules.specs.Placing.{Room, Outcome, outcome}
 use Rattle.rules.specs.Checks.{sharesOf, check}
 use Rattle.rules.specs.Runs.{Tally, nothing, one, tallied, recordsOf, Ran, ran, added}
-use Rattle.rules.specs.Calls.{roomOf, Called, unchanged, changed, request, Worked, worked, run}
+use Rattle.rules.specs.Calls.{roomOf, Called, unchanged, changed, request, Worked, worked}
 use Rattle.rules.specs.Rows.{Tells, row9, row10}
 use Rattle.rules.specs.History.{after}
-use Rattle.rules.specs.Demand1.{Roomy, Series, next, singly, begin, Equals, RunTells, RunIsSingly, RunKeeps}
+use Rattle.rules.specs.Demand1.{Roomy, Series, next, singly, begin, Equals, RunTells, RunIsSingly, RequestKeeps, RunKeeps}
 use Rattle.rules.proofs.Outcomes.{refused-is}
-use Rattle.rules.proofs.Works.{tallies, tallies-worked, tallies-place}
+use Rattle.rules.proofs.Works.{tallies}
 use Rattle.rules.proofs.Runs.{run-checked, ran-works, done, length-done, done-worked, done-place}
 use Rattle.rules.proofs.RunTells.{ran-tells, ran-ends}
 
@@ -80,7 +80,7 @@ module _ (Good : Shares → Room → Type 0)
       found q = ap₂ {C = Outcome} (λ (k : ℕ) (X : Room). outcome (shares k) q X) (good-render h lo hi R g .1) (good-render h lo hi R g .2)
 
       -- a single call does what the rules say
-      request-is : (q : Request) → request q slots forecast ≡ changed (outcome (shares h) q R)
+      pub request-is : (q : Request) → request q slots forecast ≡ changed (outcome (shares h) q R)
       unfolding request
       request-is q = ap₂ (called slots forecast) (good-render h lo hi R g .0) (found q) ∙ called-is (shares h) q R
 
@@ -98,6 +98,32 @@ module _ (Good : Shares → Room → Type 0)
     singly-is [] R t g = refl
     singly-is (q ∷ qs) R t g =
         ap {B = Series} (λ s. singly qs s) (next-is R g q t) ∙ singly-is qs (outcome (shares h) q R .room) (tallied (outcome (shares h) q R) t) (good-next h lo hi q R g)
+
+  -- what a request leaves passes the check, and its height is the same
+  pub request-passes : (q : Request) (slots : List ℕ) (F : Forecast) → check slots F ≡ 0
+      → (check (request q slots F .slots) (request q slots F .forecast) ≡ 0) × (heightOf (length (request q slots F .slots)) ≡ heightOf (length slots))
+  unfolding request
+  request-passes q slots F c = rw c (either Passes (not (eqb (o .answer .number) 0)) (c, refl) (n .0, n .1))
+    where
+      o : Outcome
+      o = outcome (sharesOf slots) q (roomOf slots F)
+
+      Passes : Called → Type 0
+      Passes d = (check (d .slots) (d .forecast) ≡ 0) × (heightOf (length (d .slots)) ≡ heightOf (length slots))
+
+      n : (check (changed o .slots) (changed o .forecast) ≡ 0)
+          × (heightOf (length (changed o .slots)) ≡ heightOf (length slots))
+          × (roomOf (changed o .slots) (changed o .forecast) ≡ o .room)
+      n =
+          let g : (1 ≤ heightOf (length slots)) × (heightOf (length slots) ≤ 6) × Good (sharesOf slots) (roomOf slots F) = good-checked slots F c in
+          good-render (heightOf (length slots)) (g .0) (g .1) (o .room) (good-next (heightOf (length slots)) (g .0) (g .1) q (roomOf slots F) (g .2))
+
+  -- so a valid list stays valid, of the same length
+  pub request-keeps : ((n : ℕ) → 1 ≤ heightOf n → n ≡ 64 * 2 ^ heightOf n) → RequestKeeps
+  request-keeps height-length q slots F c =
+      let p = request-passes q slots F c in
+      let lo : 1 ≤ heightOf (length slots) = good-checked slots F c .0 in
+      (p .0, height-length (length (request q slots F .slots)) (omega (arith, p .1)) ∙ ap (λ (h : ℕ). 64 * 2 ^ h) (p .1) ∙ sym (height-length (length slots) lo))
 
   module _ (slots : List ℕ) (F : Forecast) (bytes : List ℕ) (allowance : ℕ) (T : Totals) (c : check slots F ≡ 0) where
     abbrev h : ℕ
@@ -157,7 +183,7 @@ module _ (Good : Shares → Room → Type 0)
       totals = λ i. added T (record { worked = sym number i; refused = r .tally .refused; moves = r .tally .moves; sweeps = r .tally .sweeps; place = 0 });
     }
 
-  -- a valid list stays valid
+  -- a run keeps a valid list valid
   pub run-keeps : RunKeeps
   run-keeps slots F bytes allowance T c = rw (run-checked slots F bytes allowance T c) (keeps slots F bytes allowance T c)
 
@@ -167,7 +193,7 @@ module _ (Good : Shares → Room → Type 0)
       let S : Shares = sharesOf slots in
       let R : Room = roomOf slots F in
       rw (run-checked slots F bytes allowance T c)
-      (tells slots F bytes allowance T c, ran-ends S allowance bytes R T, ran-works S allowance bytes R .within)
+      (tells slots F bytes allowance T c, ran-ends S allowance bytes R, ran-works S allowance bytes R .within)
 
   -- a run does what its requests do singly
   pub run-is-singly : RunIsSingly
@@ -175,6 +201,6 @@ module _ (Good : Shares → Room → Type 0)
       let S : Shares = sharesOf slots in
       let R : Room = roomOf slots F in
       let d : qs ≡ take (done S allowance bytes R) (recordsOf bytes) =
-          e ∙ ap (λ (W : Worked). take (W .reply .worked) (recordsOf bytes)) (run-checked slots F bytes allowance T c)
-          ∙ ap (λ (n : ℕ). take n (recordsOf bytes)) (done-worked S allowance bytes R) in
+      e ∙ ap (λ (W : Worked). take (W .reply .worked) (recordsOf bytes)) (run-checked slots F bytes allowance T c)
+      ∙ ap (λ (n : ℕ). take n (recordsOf bytes)) (done-worked S allowance bytes R) in
       rw (run-checked slots F bytes allowance T c, d, series slots F bytes allowance T c f) (equals slots F bytes allowance T c)

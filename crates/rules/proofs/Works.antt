@@ -1,23 +1,50 @@
 -- What a run leaves is what the requests that it worked leave, one after the other; and how it ends.
 use mathlib.Core.Path.{_≡_, refl, sym, _∙_, subst}
-use mathlib.Core.Bool.{Bool, true, false, not}
+use mathlib.Core.Bool.{not}
 use mathlib.Core.Logic.{_≢_, inl, inr}
 use mathlib.Core.List.{List, [], _∷_, List·Memᴰ·not-nil as nowhere, List·Memᴰ·cases-cons as mem-cases}
 use Prim.Native.Nat.{ℕ, suc, _+_, _*_, _≤_, _<_}
 use native.Mathlib.Omega.{arith}
-use lib.Dec.{T, ltb}
-use borrow.Author.Tests.{ltb-true, ltb-false}
+use lib.Dec.{T, ltb, ltb→lt, nltb→le}
+use borrow.Author.Tests.{lt-ltb, le-ltb}
 use lib.ListN.{length, take, getD}
-use Rattle.lists.specs.Choice.{if_then_else_}
 use Rattle.lists.specs.Lists.{All}
-use Rattle.lists.proofs.Tests.{is-false}
+use Rattle.lists.proofs.Tests.{is-true, is-false, tested}
+use Rattle.slots.specs.Keys.{predecessor, segmentOf}
 use Rattle.rules.specs.declared.Request.{Request}
-use Rattle.rules.specs.declared.Request.the-variants.{Bad}
-use Rattle.rules.specs.Shares.{Shares}
-use Rattle.rules.specs.Placing.{Room, Outcome, outcome}
-use Rattle.rules.specs.Runs.{isBad, Tally, tallied, Ran, stopped, work}
+use Rattle.rules.specs.declared.Request.the-variants.{Insert, Bad}
+use Rattle.rules.specs.Shares.{Shares, shares}
+use Rattle.rules.specs.Placing.{Room, settled, insertLevel, insertKey, outcome}
+use Rattle.rules.specs.Runs.{isBad, Tally, nothing, tallied, Ran, stopped, work}
 use Rattle.rules.specs.History.{after}
 use Rattle.rules.proofs.BadRecords.{not-bad}
+
+-- an insert of one move into an empty list, with no moves allowed: the run stops before it
+pub stops-before :
+    let R : Room = record { segments = [] ∷ [] ∷ []; cells = [] } in
+    work (shares 1) 0 (Insert 5 ∷ []) R nothing ≡ stopped 10 R nothing
+unfolding work outcome insertKey insertLevel settled predecessor segmentOf
+stops-before = refl
+
+-- one step of a run: at the end, at a bad record, before one whose moves would pass the allowance, and else
+module _ (S : Shares) (allowance : ℕ) where
+  pub work-end : (R : Room) (t : Tally) → work S allowance [] R t ≡ stopped 0 R t
+  unfolding work
+  work-end R t = refl
+
+  module _ (q : Request) (qs : List Request) (R : Room) (t : Tally) where
+    pub work-bad : T (isBad q) → work S allowance (q ∷ qs) R t ≡ stopped 9 R t
+    unfolding work
+    work-bad b = rw (is-true (isBad q) b)
+
+    pub work-over : T (not (isBad q)) → allowance < t .moves + outcome S q R .answer .moves → work S allowance (q ∷ qs) R t ≡ stopped 10 R t
+    unfolding work
+    work-over g h = rw (is-false (isBad q) g, lt-ltb allowance (t .moves + outcome S q R .answer .moves) h)
+
+    pub work-on : T (not (isBad q)) → t .moves + outcome S q R .answer .moves ≤ allowance
+        → work S allowance (q ∷ qs) R t ≡ work S allowance qs (outcome S q R .room) (tallied (outcome S q R) t)
+    unfolding work
+    work-on g h = rw (is-false (isBad q) g, le-ltb allowance (t .moves + outcome S q R .answer .moves) h)
 
 -- what requests, one after the other, add to a tally
 abbrev pub tallies : Shares → List Request → Room → Tally → Tally
@@ -54,7 +81,6 @@ module _ (S : Shares) (allowance : ℕ) where
   -- none worked
   none : (qs : List Request) (R : Room) (t : Tally) (m : ℕ) → t .moves ≤ allowance
       → Stops S allowance qs 0 (stopped m R t) → Works S allowance qs R t (stopped m R t)
-  unfolding work
   none qs R t m h s = record {
     n = 0;
     fits = omega arith;
@@ -63,7 +89,7 @@ module _ (S : Shares) (allowance : ℕ) where
     tally = refl;
     within = h;
     stops = s;
-    again = refl;
+    again = work-end S allowance R t;
   }
 
   -- one more worked, before those of the rest
@@ -73,10 +99,9 @@ module _ (S : Shares) (allowance : ℕ) where
     later n (at-bad e h b) = at-bad e (omega arith) b
     later n (over e h g o) = over e (omega arith) g o
 
-    more : T (not (isBad q)) → ltb allowance (t .moves + outcome S q R .answer .moves) ≡ false
+    more : T (not (isBad q)) → t .moves + outcome S q R .answer .moves ≤ allowance
         → Works S allowance qs (outcome S q R .room) (tallied (outcome S q R) t) r → Works S allowance (q ∷ qs) R t r
-    unfolding work
-    more g f w = record {
+    more g k w = record {
       n = suc (w .n);
       fits = omega (arith, w .fits);
       good = λ x m. elim (mem-cases m) [ inl e ↦ subst (λ (z : Request). z ≢ Bad) (sym e) (not-bad q g) | inr i ↦ w .good x i ];
@@ -84,25 +109,29 @@ module _ (S : Shares) (allowance : ℕ) where
       tally = w .tally;
       within = w .within;
       stops = later (w .n) (w .stops);
-      again = rw (is-false (isBad q) g, f) (w .again);
+      again = work-on S allowance q (take (w .n) qs) R t g k ∙ w .again;
     }
 
-  -- a run within its allowance works the first requests up to where it stops
+  -- a run of one request or more, from what the run of the rest works
+  step : (q : Request) (qs : List Request) (R : Room) (t : Tally) → t .moves ≤ allowance
+      → (t .moves + outcome S q R .answer .moves ≤ allowance
+      → Works S allowance qs (outcome S q R .room) (tallied (outcome S q R) t) (work S allowance qs (outcome S q R .room) (tallied (outcome S q R) t)))
+      → Works S allowance (q ∷ qs) R t (work S allowance (q ∷ qs) R t)
+  step q qs R t h rest =
+      elim (tested (isBad q)) [
+        | inl b ↦ rw (work-bad S allowance q qs R t b) (none (q ∷ qs) R t 9 h (at-bad refl (omega arith) b))
+        | inr g ↦
+            elim (tested (ltb allowance (t .moves + outcome S q R .answer .moves))) [
+              | inl l ↦
+                  let k : allowance < t .moves + outcome S q R .answer .moves = ltb→lt _ _ l in
+                  rw (work-over S allowance q qs R t g k) (none (q ∷ qs) R t 10 h (over refl (omega arith) g k))
+              | inr l ↦
+                  let k : t .moves + outcome S q R .answer .moves ≤ allowance = nltb→le _ _ l in
+                  rw (work-on S allowance q qs R t g k) (more q qs R t _ g k (rest k))
+            ]
+      ]
+
+  -- a run within its allowance works the first requests, up to where it stops
   pub works : (qs : List Request) (R : Room) (t : Tally) → t .moves ≤ allowance → Works S allowance qs R t (work S allowance qs R t)
-  unfolding work
-  works [] R t h = none [] R t 0 h (ends refl refl)
-  works (q ∷ qs) R t h =
-      go (isBad q) refl (ltb allowance (t .moves + o .answer .moves)) refl (λ k. works qs (o .room) (tallied o t) k)
-    where
-      o : Outcome
-      o = outcome S q R
-
-      rest : Ran
-      rest = work S allowance qs (o .room) (tallied o t)
-
-      go : (a : Bool) → isBad q ≡ a → (b : Bool) → ltb allowance (t .moves + o .answer .moves) ≡ b
-          → (t .moves + o .answer .moves ≤ allowance → Works S allowance qs (o .room) (tallied o t) rest)
-          → Works S allowance (q ∷ qs) R t (if a then stopped 9 R t else if b then stopped 10 R t else rest)
-      go true e b f w = none (q ∷ qs) R t 9 h (at-bad refl (omega arith) (subst T (sym e) tt))
-      go false e true f w = none (q ∷ qs) R t 10 h (over refl (omega arith) (subst (λ b. T (not b)) (sym e) tt) (ltb-true _ _ f))
-      go false e false f w = more q qs R t rest (subst (λ b. T (not b)) (sym e) tt) f (w (ltb-false _ _ f))
+  works [] R t h = rw (work-end S allowance R t) (none [] R t 0 h (ends refl refl))
+  works (q ∷ qs) R t h = step q qs R t h (λ k. works qs (outcome S q R .room) (tallied (outcome S q R) t) k)

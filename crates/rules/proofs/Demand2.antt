@@ -27,7 +27,7 @@ use Rattle.rules.specs.Demand3.{setAfter}
 use Rattle.rules.proofs.Table.{ends}
 use Rattle.rules.proofs.KeysKept.{keys-kept}
 use Rattle.rules.proofs.Checked.{passed, list-passes, checked, keys-shown, proper-segments, height-render}
-use Rattle.rules.proofs.Requests.{lent, by-number, request-accepted, request-refused, request-answer, request-keeps, good-lent}
+use Rattle.rules.proofs.Requests.{lent, by-number, lent-accepted, lent-refused, request-answer, request-keeps, good-lent}
 use Rattle.rules.proofs.Empty.{made-length, made-passes, made-keys}
 use Rattle.rules.proofs.SetSteps.{insert-number, delete-number, delete-sparse}
 use Rattle.rules.proofs.SetLookup.{lookup-told}
@@ -76,12 +76,12 @@ module _ (h : ℕ) (from : 1 ≤ h) (to : h ≤ 6) (H : Held) (ks : List ℕ) (I
   next-keys q =
       by-number q (H .slots) (H .forecast) (live (request q (H .slots) (H .forecast) .slots) ≡ (if eqb (request q (H .slots) (H .forecast) .answer .number) 0 then setAfter q ks else ks))
       (λ n.
-      rw (request-accepted q (H .slots) (H .forecast) (I .passes) n, eq-eqb (lent q (H .slots) (H .forecast) .answer .number) 0 n)
+      rw (lent-accepted q (H .slots) (H .forecast) (I .passes) n, eq-eqb (lent q (H .slots) (H .forecast) .answer .number) 0 n)
       (live-render (lent q (H .slots) (H .forecast) .room .segments) (good-lent q (H .slots) (H .forecast) (I .passes) .proper .listed .live)
       ∙ keys-kept (sharesOf (H .slots)) q (roomOf (H .slots) (H .forecast)) (checked (H .slots) (H .forecast) (I .passes) .2 .proper)
       (eq→eqb (lent q (H .slots) (H .forecast) .answer .number) 0 n)
       ∙ ap (setAfter q) shown))
-      (λ n. rw (request-refused q (H .slots) (H .forecast) (I .passes) n, ne-eqb (lent q (H .slots) (H .forecast) .answer .number) 0 n) (I .keys))
+      (λ n. rw (lent-refused q (H .slots) (H .forecast) (I .passes) n, ne-eqb (lent q (H .slots) (H .forecast) .answer .number) 0 n) (I .keys))
 
   next-holds : (q : Request) (xs : List ℕ) → (if eqb (request q (H .slots) (H .forecast) .answer .number) 0 then setAfter q ks else ks) ≡ xs → Holds h (next q) xs
   next-holds q xs e = record {

@@ -20,3 +20,10 @@ pub mod Requests
 pub mod SetSteps
 pub mod Empty
 pub mod Demand2
+pub mod Refused
+pub mod Records
+pub mod Works
+pub mod Runs
+pub mod RunTells
+pub mod Singly
+pub mod BadRecords

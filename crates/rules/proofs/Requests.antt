@@ -34,13 +34,13 @@ module _ (q : Request) (slots : List ℕ) (F : Forecast) where
   unfolding request
   request-unchecked n = rw (ne-eqb (check slots F) 0 n)
 
-  pub request-refused : check slots F ≡ 0 → lent .answer .number ≢ 0 → request q slots F ≡ unchanged slots F (lent .answer .number)
+  pub lent-refused : check slots F ≡ 0 → lent .answer .number ≢ 0 → request q slots F ≡ unchanged slots F (lent .answer .number)
   unfolding request
-  request-refused e n = rw (eq-eqb (check slots F) 0 e, ne-eqb (lent .answer .number) 0 n)
+  lent-refused e n = rw (eq-eqb (check slots F) 0 e, ne-eqb (lent .answer .number) 0 n)
 
-  pub request-accepted : check slots F ≡ 0 → lent .answer .number ≡ 0 → request q slots F ≡ changed lent
+  pub lent-accepted : check slots F ≡ 0 → lent .answer .number ≡ 0 → request q slots F ≡ changed lent
   unfolding request
-  request-accepted e n = rw (eq-eqb (check slots F) 0 e, eq-eqb (lent .answer .number) 0 n)
+  lent-accepted e n = rw (eq-eqb (check slots F) 0 e, eq-eqb (lent .answer .number) 0 n)
 
   -- accepted or not
   pub by-number : (P : Type 0) → (lent .answer .number ≡ 0 → P) → (lent .answer .number ≢ 0 → P) → P
@@ -53,8 +53,8 @@ module _ (q : Request) (slots : List ℕ) (F : Forecast) where
   -- the answer is the rules'
   pub request-answer : check slots F ≡ 0 → request q slots F .answer ≡ lent .answer
   request-answer e =
-      by-number (request q slots F .answer ≡ lent .answer) (λ n. ap (λ (c : Called). c .answer) (request-accepted e n))
-      (λ n. ap (λ (c : Called). c .answer) (request-refused e n) ∙ sym (ap (λ (o : Outcome). o .answer) (refused-is (sharesOf slots) q (roomOf slots F) n)))
+      by-number (request q slots F .answer ≡ lent .answer) (λ n. ap (λ (c : Called). c .answer) (lent-accepted e n))
+      (λ n. ap (λ (c : Called). c .answer) (lent-refused e n) ∙ sym (ap (λ (o : Outcome). o .answer) (refused-is (sharesOf slots) q (roomOf slots F) n)))
 
   -- VALID STAYS VALID
   pub good-lent : check slots F ≡ 0 → Good (sharesOf slots) (lent .room)
@@ -70,4 +70,4 @@ module _ (q : Request) (slots : List ℕ) (F : Forecast) where
 pub request-keeps : RequestKeeps
 request-keeps q slots F e =
     by-number q slots F ((check (request q slots F .slots) (request q slots F .forecast) ≡ 0) × (length (request q slots F .slots) ≡ length slots))
-    (λ n. rw (request-accepted q slots F e n) (changed-keeps q slots F e)) (λ n. rw (request-refused q slots F e n) (e, refl))
+    (λ n. rw (lent-accepted q slots F e n) (changed-keeps q slots F e)) (λ n. rw (lent-refused q slots F e n) (e, refl))

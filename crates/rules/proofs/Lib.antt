@@ -16,3 +16,7 @@ pub mod SetLookup
 pub mod KeysKept
 pub mod Good
 pub mod Checked
+pub mod Tells
+pub mod Rows
+pub mod Row4
+pub mod Numbers

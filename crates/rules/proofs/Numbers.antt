@@ -1,11 +1,10 @@
 -- Demand 1: each call gives each number exactly when its row applies and none before it does.
 use mathlib.Core.Path.{_≡_, refl}
 use mathlib.Core.Bool.{Bool, true, false, not}
-use mathlib.Core.Logic.{_≢_}
 use mathlib.Core.List.{List, [], _∷_}
 use Prim.Native.Nat.{ℕ}
 use native.Mathlib.Omega.{arith}
-use lib.Dec.{T, leb, ltb, eqb}
+use lib.Dec.{leb, ltb, eqb}
 use lib.ListN.{length}
 use Rattle.lists.specs.Choice.{if_then_else_}
 use Rattle.lists.proofs.Tests.{neqb→ne}
@@ -18,7 +17,7 @@ use Rattle.rules.specs.declared.Request.{Request}
 use Rattle.rules.specs.declared.Request.the-variants.{Insert, Delete}
 use Rattle.rules.specs.Shares.{capacity, cellsOf}
 use Rattle.rules.specs.Placing.{Outcome, insertKey, deleteKey, outcome}
-use Rattle.rules.specs.Looking.{Found, lookedUp, Scanned, scanned}
+use Rattle.rules.specs.Looking.{Found, Scanned, scanned}
 use Rattle.rules.specs.Checks.{sharesOf, checkList, check}
 use Rattle.rules.specs.Calls.{roomOf, Made, make, lookup, scan, Called, unchanged, changed, request}
 use Rattle.rules.specs.Rows.{Row, Tells, row1, row2, row3, row4, row5, row6, row7, row8}
@@ -115,8 +114,7 @@ request-tells q rest slots F r t =
     o : Outcome
     o = outcome (sharesOf slots) q (roomOf slots F)
 
-    same : (b : Bool) → told (if not b then unchanged slots F (number (outcome (sharesOf slots) q (roomOf slots F))) else changed (outcome (sharesOf slots) q (roomOf slots F)))
-        ≡ number (outcome (sharesOf slots) q (roomOf slots F))
+    same : (b : Bool) → told (if not b then unchanged slots F (number o) else changed o) ≡ number o
     same true = refl
     same false = refl
 

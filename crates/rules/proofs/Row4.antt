@@ -6,7 +6,7 @@ use mathlib.Core.List.{List, List·Memᴰ as Mem}
 use Prim.Native.Nat.{ℕ, _+_, _/_, _^_, _≤_, _<_}
 use native.Mathlib.Decide.{decLt}
 use native.Mathlib.Omega.{arith}
-use lib.Dec.{T, T-not}
+use lib.Dec.{T-not}
 use lib.ListN.{length}
 use Rattle.slots.specs.Segments.{keys, heightOf, segmentsOf}
 use Rattle.slots.specs.Keys.{segmentOf}

@@ -9,6 +9,7 @@ pub mod Sizes
 pub mod Demand3
 pub mod Sums
 pub mod OwnCases
+pub mod RefusalCases
 pub mod SetLaws
 pub mod PlainSet
 pub mod SetScan

@@ -1,6 +1,6 @@
 -- Computed cases of the refusals, each at the edge of its row.
 use mathlib.Core.Path.{_≡_, refl}
-use mathlib.Core.List.{List, _++_}
+use mathlib.Core.List.{List, [], _++_}
 use Prim.Native.Nat.{ℕ, _-_}
 use lib.ListN.{replicate}
 use Rattle.slots.specs.Segments.{heightOf, segmentsOf}
@@ -9,10 +9,13 @@ use Rattle.slots.specs.Keys.{segmentOf}
 use Rattle.forecast.specs.declared.Forecast.{Forecast}
 use Rattle.forecast.specs.Cells.{zeroCell}
 use Rattle.forecast.specs.Faults.{faultAt, faultOf}
+use Rattle.rules.specs.declared.Request.the-variants.{Insert}
+use Rattle.rules.specs.Shares.{shares}
+use Rattle.rules.specs.Placing.{outcome}
 use Rattle.rules.specs.Looking.{lookedUp}
 use Rattle.rules.specs.Checks.{checkList, check}
 use Rattle.rules.specs.Calls.{lookup}
-use Rattle.rules.specs.Sums.{upFrom}
+use Rattle.rules.specs.Sums.{room, upFrom}
 
 -- slots of height 1, with a and b keys in their segments
 abbrev slots : ℕ → ℕ → List ℕ
@@ -44,3 +47,12 @@ list-told-first = refl
 key-zero : lookup (slots 1 0) 0 .number ≡ 5
 unfolding lookup lookedUp checkList heightOf orderOf segmentsOf segmentOf
 key-zero = refl
+
+-- a full list tells a present key first, and takes no other though its segment has room
+present-before-full : outcome (shares 1) (Insert 1) (room (segmentsOf (slots 33 31)) []) .answer .number ≡ 6
+unfolding outcome segmentsOf
+present-before-full = refl
+
+full-by-keys : outcome (shares 1) (Insert 50) (room (segmentsOf (slots 33 31)) []) .answer .number ≡ 8
+unfolding outcome segmentsOf
+full-by-keys = refl

@@ -9,6 +9,9 @@ pub mod Accepted
 pub mod Moved
 pub mod Sizes
 pub mod Demand3
+pub mod Sums
+pub mod OwnCases
+pub mod RefusalCases
 pub mod SetLaws
 pub mod PlainSet
 pub mod SetScan
@@ -27,3 +30,7 @@ pub mod Runs
 pub mod RunTells
 pub mod Singly
 pub mod BadRecords
+pub mod Tells
+pub mod Rows
+pub mod Row4
+pub mod Numbers

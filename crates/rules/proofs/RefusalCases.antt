@@ -1,0 +1,58 @@
+-- Computed cases of the refusals, each at the edge of its row.
+use mathlib.Core.Path.{_≡_, refl}
+use mathlib.Core.List.{List, [], _++_}
+use Prim.Native.Nat.{ℕ, _-_}
+use lib.ListN.{replicate}
+use Rattle.slots.specs.Segments.{heightOf, segmentsOf}
+use Rattle.slots.specs.Orders.{orderOf}
+use Rattle.slots.specs.Keys.{segmentOf}
+use Rattle.forecast.specs.declared.Forecast.{Forecast}
+use Rattle.forecast.specs.Cells.{zeroCell}
+use Rattle.forecast.specs.Faults.{faultAt, faultOf}
+use Rattle.rules.specs.declared.Request.the-variants.{Insert}
+use Rattle.rules.specs.Shares.{shares}
+use Rattle.rules.specs.Placing.{outcome}
+use Rattle.rules.specs.Looking.{lookedUp}
+use Rattle.rules.specs.Checks.{checkList, check}
+use Rattle.rules.specs.Calls.{lookup}
+use Rattle.rules.specs.Sums.{room, upFrom}
+
+-- slots of height 1, with a and b keys in their segments
+abbrev slots : ℕ → ℕ → List ℕ
+slots a b = upFrom 1 a ++ (replicate (64 - a) 0 ++ (upFrom 101 b ++ replicate (64 - b) 0))
+
+-- a forecast with one cell, in use, whose count is 0
+abbrev uncounted : Forecast
+uncounted = record { cells = replicate 12 zeroCell; used = 1 }
+
+-- 64 keys are allowed at height 1, and 65 are not
+full-passes : checkList (slots 33 31) ≡ 0
+unfolding checkList heightOf orderOf
+full-passes = refl
+
+over-full : checkList (slots 33 32) ≡ 3
+unfolding checkList heightOf orderOf
+over-full = refl
+
+-- a bad forecast is told of a good list, and not of a bad one
+forecast-told : check (slots 33 31) uncounted ≡ 4
+unfolding check checkList heightOf orderOf faultOf faultAt segmentsOf segmentOf
+forecast-told = refl
+
+list-told-first : check (slots 33 32) uncounted ≡ 3
+unfolding check checkList heightOf orderOf faultOf faultAt segmentsOf segmentOf
+list-told-first = refl
+
+-- key 0 is refused, not absent
+key-zero : lookup (slots 1 0) 0 .number ≡ 5
+unfolding lookup lookedUp checkList heightOf orderOf segmentsOf segmentOf
+key-zero = refl
+
+-- a full list tells a present key first, and takes no other though its segment has room
+present-before-full : outcome (shares 1) (Insert 1) (room (segmentsOf (slots 33 31)) []) .answer .number ≡ 6
+unfolding outcome segmentsOf
+present-before-full = refl
+
+full-by-keys : outcome (shares 1) (Insert 50) (room (segmentsOf (slots 33 31)) []) .answer .number ≡ 8
+unfolding outcome segmentsOf
+full-by-keys = refl

@@ -9,8 +9,6 @@ pub mod Accepted
 pub mod Moved
 pub mod Sizes
 pub mod Demand3
-pub mod Sums
-pub mod OwnCases
 pub mod RefusalCases
 pub mod SetLaws
 pub mod PlainSet

@@ -1,5 +1,5 @@
 -- Computed cases of our own, for what document 01's sums let through.
-use mathlib.Core.Path.{_≡_}
+use mathlib.Core.Path.{_≡_, refl}
 use mathlib.Core.Bool.{Bool}
 use mathlib.Core.List.{List, [], _∷_, _++_, map, List·Memᴰ as Mem}
 use Prim.Native.Nat.{ℕ, zero, suc, _+_, _*_}
@@ -10,6 +10,7 @@ use Rattle.slots.specs.Keys.{predecessor, segmentOf}
 use Rattle.forecast.specs.Cells.{cell, weight}
 use Rattle.forecast.specs.Steps.{raised, tailed, noted, dropped, retargeted}
 use Rattle.rules.specs.declared.Request.the-variants.{Insert, Delete}
+use Rattle.rules.specs.Shares.{shares}
 use Rattle.rules.specs.SharingOut.{leftShare, plan, shareOut}
 use Rattle.rules.specs.Placing.{sweep, chosen, settled, insertLevel, insertKey, deleteLevel, deleteKey, outcome}
 use Rattle.rules.specs.Sums.{Case, Worked, Shared, gives, says, room, upFrom}
@@ -57,3 +58,8 @@ right c = same (gives c) (says c)
 pub own-cases : (c : Case) → Mem c ownCases → gives c ≡ says c
 unfolding without predecessor segmentOf weight raised tailed noted dropped retargeted leftShare plan shareOut sweep chosen settled insertLevel insertKey deleteLevel deleteKey outcome
 own-cases c m = same→eq (gives c) (says c) (all-at right ownCases tt c m)
+
+-- A cell whose marker a sweep takes to another segment names the new one.
+pub aims-again : outcome (shares 2) (Insert 3) (room (evens ∷ [] ∷ [] ∷ [] ∷ []) (cell 128 0 1 ∷ [])) .room .cells ≡ cell 2 0 1 ∷ cell 128 1 1 ∷ []
+unfolding without predecessor segmentOf weight raised tailed noted dropped retargeted leftShare plan shareOut sweep chosen settled insertLevel insertKey deleteLevel deleteKey outcome
+aims-again = refl

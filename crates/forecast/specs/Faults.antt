@@ -2,8 +2,7 @@
 -- or its segment is wrong; or an unused cell is not all zeros. The first bad cell from the head, and why.
 use Prim.Native.Nat.{ℕ}
 use mathlib.Core.Bool.{Bool, true, false, not, _&&_, _||_}
-use mathlib.Core.Option.{Option, none, some}
-use mathlib.Core.List.{List}
+use mathlib.Core.Option.{none, some}
 use lib.Dec.{leb, ltb, eqb}
 use lib.ListN.{length, take, getD}
 use Rattle.lists.specs.Choice.{if_then_else_}

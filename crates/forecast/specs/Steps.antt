@@ -1,6 +1,6 @@
 -- Document 01, "The forecast": what an insert notes, what a delete drops, and where cells aim.
-use Prim.Native.Nat.{ℕ, zero, suc, _+_, _-_}
-use mathlib.Core.List.{List, [], _∷_, map}
+use Prim.Native.Nat.{ℕ, _+_, _-_}
+use mathlib.Core.List.{List, _∷_, map}
 use lib.Dec.{leb, ltb, eqb}
 use lib.ListN.{length, take, getD, set}
 use Rattle.lists.specs.Choice.{if_then_else_}

@@ -1,11 +1,11 @@
 -- Lists filled up to a length, and lists without one element.
 use mathlib.Core.Path.{_≡_, refl, sym, ap, _∙_}
-use mathlib.Core.Logic.{_⊎_, inl, inr}
+use mathlib.Core.Logic.{inl, inr}
 use mathlib.Core.List.{List, [], _∷_, _++_, append-nil, List·Memᴰ as Mem, List·Memᴰ·append-cases as in-either}
 use Prim.Native.Nat.{ℕ, zero, suc, _+_, _-_, _≤_, _<_}
 use native.Mathlib.Omega.{arith}
 use lib.ListN.{length, take, drop, getD, set, replicate, length-append, length-replicate, length-take, length-drop, length-set, drop-of-length-le}
-use lib.Seq.{take-append-le, take-append-seam, drop-append-seam, drop-append-add, set-append-left, take-all, take-at, length-take-le, getD-append-add, getD-drop}
+use lib.Seq.{take-append-le, take-append-seam, drop-append-add, set-append-left, take-all}
 use Rattle.lists.specs.Lists.{padded, without}
 use Rattle.lists.proofs.Members.{mem-take, mem-drop}
 

@@ -4,7 +4,7 @@ use mathlib.Core.Bool.{Bool, true, false, _&&_, _||_, not}
 use mathlib.Core.Logic.{_⊎_, inl, inr, _≢_}
 use Prim.Native.Nat.{ℕ, _≤_, _<_}
 use native.Mathlib.Omega.{arith}
-use lib.Dec.{T, T-not, not-T, leb, ltb, eqb, ltb→lt, eqb→eq, eqb-refl}
+use lib.Dec.{T, T-not, not-T, ltb, eqb, ltb→lt, eqb→eq, eqb-refl}
 use Rattle.lists.specs.Choice.{if_then_else_}
 
 -- what holds of both ways of a choice holds of the choice

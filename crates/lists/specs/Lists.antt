@@ -1,6 +1,6 @@
 -- Functions on lists that no library has, over any element type.
 use Prim.Native.Nat.{ℕ, zero, suc, _+_, _-_}
-use mathlib.Core.Bool.{Bool, true, false, _||_}
+use mathlib.Core.Bool.{Bool, false, _||_}
 use mathlib.Core.List.{List, [], _∷_, _++_, List·Memᴰ}
 use lib.ListN.{length, take, drop, replicate}
 use Rattle.lists.specs.Choice.{if_then_else_}

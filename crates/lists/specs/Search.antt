@@ -1,6 +1,6 @@
 -- The first that passes a test: of numbers, and of the elements of a list.
 use Prim.Native.Nat.{ℕ, zero, suc}
-use mathlib.Core.Bool.{Bool, true, false}
+use mathlib.Core.Bool.{Bool}
 use mathlib.Core.Option.{Option, none, some}
 use mathlib.Core.List.{List, [], _∷_}
 use Rattle.lists.specs.Choice.{if_then_else_}

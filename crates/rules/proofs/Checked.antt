@@ -1,18 +1,17 @@
 -- What passes the check is good and is what its slots and cells show; what is good, written out, passes the check.
-use mathlib.Core.Path.{_≡_, refl, sym, ap, _∙_, subst}
+use mathlib.Core.Path.{_≡_, refl, ap, _∙_}
 use mathlib.Core.Bool.{Bool, true, false, not}
-use mathlib.Core.Logic.{_⊎_, inl, inr, _≢_}
-use mathlib.Core.List.{List, [], _∷_}
-use Prim.Native.Nat.{ℕ, zero, suc, _+_, _*_, _^_, _≤_, _<_}
-use native.Mathlib.Nat.{mul-comm}
+use mathlib.Core.Logic.{inl, inr, _≢_}
+use mathlib.Core.List.{List}
+use Prim.Native.Nat.{ℕ, _*_, _^_, _≤_}
 use native.Mathlib.Omega.{arith}
-use lib.Dec.{T, ltb, eqb, eqb→eq, nltb→le, le→leb}
+use lib.Dec.{T, ltb, eqb, eqb→eq, nltb→le}
 use borrow.Author.Tests.{le-ltb, ne-eqb}
 use lib.ListN.{length}
 use Rattle.lists.specs.Choice.{if_then_else_}
 use Rattle.lists.specs.Lists.{All}
-use Rattle.lists.proofs.Tests.{neqb→ne, double-not, not-not, is-true, is-false}
-use Rattle.slots.specs.Segments.{Segments, keys, live, heightOf, segmentsOf, render}
+use Rattle.lists.proofs.Tests.{neqb→ne, is-true}
+use Rattle.slots.specs.Segments.{keys, live, heightOf, segmentsOf, render}
 use Rattle.slots.specs.Orders.{orderOf, isKept}
 use Rattle.slots.proofs.Heights.{height-is, height-cases}
 use Rattle.slots.proofs.Orders.{Ordered, Solid, kept→}
@@ -22,7 +21,7 @@ use Rattle.forecast.specs.Cells.{usedCells, forecastOf}
 use Rattle.forecast.specs.Faults.{faultOf, isSound}
 use Rattle.forecast.proofs.Laws.{used-forecastOf}
 use Rattle.forecast.proofs.Faults.{sound-ruled, sound-whole, ruled-sound}
-use Rattle.rules.specs.Shares.{Shares, shares, capacity, cellsOf}
+use Rattle.rules.specs.Shares.{shares, capacity, cellsOf}
 use Rattle.rules.specs.Placing.{Room}
 use Rattle.rules.specs.Checks.{sharesOf, checkList, check}
 use Rattle.rules.specs.Calls.{roomOf}

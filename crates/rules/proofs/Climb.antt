@@ -1,11 +1,10 @@
 -- Climbing: the smallest window within limits, and that an insert into a full segment always finds one.
-use mathlib.Core.Path.{_≡_, refl, sym, ap, ap₂, _∙_, subst}
+use mathlib.Core.Path.{_≡_, refl, subst}
 use mathlib.Core.Bool.{Bool, true, false, _&&_, not}
-use mathlib.Core.Logic.{_⊎_, inl, inr}
 use mathlib.Core.Option.{Option, none, some}
-use mathlib.Core.List.{List, [], _∷_, _++_, map, append-nil}
-use Prim.Native.Nat.{ℕ, zero, suc, _+_, _-_, _*_, _/_, _^_, _≤_, _<_}
-use native.Mathlib.Nat.{mul-le-mul-left, le-trans, le-refl, le-of-lt, one-mul, pow-zero, eq-or-lt-of-le}
+use mathlib.Core.List.{[], map, append-nil}
+use Prim.Native.Nat.{ℕ, zero, suc, _+_, _*_, _^_, _≤_, _<_}
+use native.Mathlib.Nat.{mul-le-mul-left, le-refl, one-mul, pow-zero}
 use native.Mathlib.Omega.{arith}
 use lib.Dec.{T, T-not, not-T, leb, leb→le, le→leb, nleb→lt}
 use lib.ListN.{length, getD}
@@ -13,7 +12,7 @@ use Rattle.lists.proofs.Tests.{and-left, and-right, and-both}
 use Rattle.lists.specs.Search.{first}
 use Rattle.lists.proofs.Search.{First, Firsts, firsts, first-is, first-none}
 use Rattle.slots.specs.Segments.{Segments, keys}
-use Rattle.slots.specs.Windows.{window, count}
+use Rattle.slots.specs.Windows.{count}
 use Rattle.slots.proofs.Windows.{double, window-mono, window-all, window-zero}
 use Rattle.slots.proofs.Counts.{count-window}
 use Rattle.rules.specs.Shares.{Shares, Lawful, within, capacity}

@@ -1,32 +1,30 @@
 -- Demand 2: from make on, the public calls answer as the plain set does, and hold its keys.
-use mathlib.Core.Path.{_≡_, refl, sym, ap, ap₂, _∙_, subst}
-use mathlib.Core.Bool.{Bool, true, false, not, _&&_}
-use mathlib.Core.Logic.{_≢_}
+use mathlib.Core.Path.{_≡_, refl, ap, ap₂, _∙_}
+use mathlib.Core.Bool.{_&&_}
 use mathlib.Core.List.{List, [], _∷_}
-use Prim.Native.Nat.{ℕ, zero, suc, _*_, _^_, _≤_, _<_}
+use Prim.Native.Nat.{ℕ, _*_, _^_, _≤_}
 use native.Mathlib.Nat.{mul-comm}
-use native.Mathlib.Omega.{arith}
-use lib.Dec.{T, ltb, eqb, eqb→eq}
+use lib.Dec.{ltb, eqb}
 use borrow.Author.Tests.{eq-eqb, ne-eqb}
-use lib.ListN.{length, replicate}
+use lib.ListN.{length}
 use Rattle.lists.specs.Choice.{if_then_else_}
-use Rattle.lists.proofs.Tests.{eq→eqb, neqb→ne}
-use Rattle.slots.specs.Segments.{keys, live, heightOf, segmentsOf, render}
+use Rattle.lists.proofs.Tests.{eq→eqb}
+use Rattle.slots.specs.Segments.{keys, live, heightOf, segmentsOf}
 use Rattle.slots.proofs.Heights.{height-is}
 use Rattle.slots.proofs.Render.{live-render}
 use Rattle.rules.specs.declared.Request.{Request}
-use Rattle.rules.specs.declared.Request.the-variants.{Insert, Delete, Bad}
-use Rattle.rules.specs.Shares.{Shares, shares, capacity, floor}
-use Rattle.rules.specs.Placing.{Answer, outcome}
+use Rattle.rules.specs.declared.Request.the-variants.{Insert, Delete}
+use Rattle.rules.specs.Shares.{shares, capacity, floor}
+use Rattle.rules.specs.Placing.{Answer}
 use Rattle.rules.specs.Looking.{Found, Scanned, lookedUp, scanned}
 use Rattle.rules.specs.Checks.{sharesOf, checkList, check}
-use Rattle.rules.specs.Calls.{roomOf, Called, make, lookup, scan, request}
+use Rattle.rules.specs.Calls.{roomOf, lookup, scan, request}
 use Rattle.rules.specs.PlainSet as set
 use Rattle.rules.specs.Demand2.{Held, told, after, allTold, afterAll, made, Demand2}
 use Rattle.rules.specs.Demand3.{setAfter}
 use Rattle.rules.proofs.Table.{ends}
 use Rattle.rules.proofs.KeysKept.{keys-kept}
-use Rattle.rules.proofs.Checked.{passed, list-passes, checked, keys-shown, proper-segments, height-render}
+use Rattle.rules.proofs.Checked.{passed, list-passes, checked, keys-shown}
 use Rattle.rules.proofs.Requests.{lent, by-number, lent-accepted, lent-refused, request-answer, request-keeps, good-lent}
 use Rattle.rules.proofs.Empty.{made-length, made-passes, made-keys}
 use Rattle.rules.proofs.SetSteps.{insert-number, delete-number, delete-sparse}

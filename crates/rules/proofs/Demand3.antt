@@ -1,15 +1,15 @@
 -- Demand 3: every window inside a sweep keeps to its parent's shares, and a half that sets off a sweep again has taken over the gap.
 use mathlib.Core.Path.{_≡_, refl, sym, ap, _∙_, subst}
-use mathlib.Core.Bool.{Bool, true, false, _&&_, _||_, not}
-use mathlib.Core.Logic.{_⊎_, inl, inr, _≢_}
+use mathlib.Core.Bool.{Bool, true, false, not}
+use mathlib.Core.Logic.{_⊎_, inl, inr}
 use mathlib.Core.Option.{Option, none, some}
 use mathlib.Core.List.{List, [], _∷_, _++_}
-use Prim.Native.Nat.{ℕ, zero, suc, _+_, _-_, _*_, _/_, _^_, _≤_, _<_}
+use Prim.Native.Nat.{ℕ, suc, _+_, _-_, _*_, _^_, _<_}
 use native.Mathlib.Nat.{mul-sub, mul-le-mul-left, le-of-lt}
 use native.Mathlib.Omega.{arith}
 use lib.Dec.{T, leb, eqb, leb→le, eqb→eq, le→leb}
 use Rattle.lists.specs.Choice.{if_then_else_}
-use Rattle.lists.proofs.Tests.{and-left, and-right, and-both, neither, neqb→ne, eq→eqb}
+use Rattle.lists.proofs.Tests.{and-left, and-both, neither, neqb→ne, eq→eqb}
 use Rattle.slots.specs.Segments.{Segments}
 use Rattle.slots.specs.Windows.{start, count}
 use Rattle.slots.proofs.Counts.{count-start}

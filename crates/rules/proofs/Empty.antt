@@ -1,13 +1,13 @@
 -- A list made empty: it passes the check and has no key.
-use mathlib.Core.Path.{_≡_, refl, sym, ap, _∙_, subst}
-use mathlib.Core.Logic.{_⊎_, inl, inr}
-use mathlib.Core.List.{List, [], _∷_, List·Memᴰ·not-nil as nowhere, List·Memᴰ·cases-cons as mem-cases}
+use mathlib.Core.Path.{_≡_, refl, sym, ap, _∙_}
+use mathlib.Core.Logic.{inl, inr}
+use mathlib.Core.List.{List, [], List·Memᴰ·not-nil as nowhere, List·Memᴰ·cases-cons as mem-cases}
 use Prim.Native.Nat.{ℕ, zero, suc, _*_, _^_, _≤_}
 use native.Mathlib.Omega.{arith}
 use borrow.Author.Tests.{ne-eqb}
 use lib.ListN.{length, replicate, length-replicate}
 use Rattle.lists.specs.Lists.{All}
-use Rattle.slots.specs.Segments.{Segments, keys, live, heightOf, render}
+use Rattle.slots.specs.Segments.{keys, live, heightOf, render}
 use Rattle.slots.proofs.Heights.{height-is}
 use Rattle.slots.proofs.Render.{live-render, render-empty}
 use Rattle.forecast.specs.Cells.{forecastOf}

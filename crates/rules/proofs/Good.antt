@@ -1,21 +1,21 @@
 -- A good list with its forecast, and that every request leaves it good.
-use mathlib.Core.Path.{_≡_, refl, sym, ap, _∙_}
-use mathlib.Core.Bool.{Bool, true, false, not}
-use mathlib.Core.Logic.{_⊎_, inl, inr, _≢_}
+use mathlib.Core.Path.{_≡_, refl, ap}
+use mathlib.Core.Bool.{Bool, true, false}
+use mathlib.Core.Logic.{inl, inr, _≢_}
 use mathlib.Core.List.{List, List·Memᴰ as Mem}
-use Prim.Native.Nat.{ℕ, suc, _+_, _≤_, _<_}
+use Prim.Native.Nat.{ℕ, _≤_}
 use native.Mathlib.Omega.{arith}
-use lib.Dec.{T, eqb}
+use lib.Dec.{T}
 use lib.ListN.{length}
 use Rattle.lists.specs.Lists.{All}
 use Rattle.lists.proofs.Tests.{neqb→ne}
 use Rattle.slots.specs.Segments.{Segments, keys}
-use Rattle.slots.specs.Keys.{put, cut, predecessor, segmentOf}
+use Rattle.slots.specs.Keys.{predecessor, segmentOf}
 use Rattle.slots.proofs.Windows.{pow-pos}
 use Rattle.slots.proofs.Rising.{mem-put, mem-cut}
 use Rattle.slots.proofs.Keys.{pred-mem, member→mem}
 use Rattle.forecast.specs.declared.Cell.{Cell}
-use Rattle.forecast.specs.Steps.{noted, dropped, retargeted}
+use Rattle.forecast.specs.Steps.{noted, dropped}
 use Rattle.forecast.proofs.Ruled.{Ruled, Placed, wider}
 use Rattle.forecast.proofs.Kept.{noted-ruled, dropped-ruled, retargeted-ruled}
 use Rattle.forecast.proofs.Readings.{Marker}

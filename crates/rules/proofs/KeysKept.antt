@@ -1,11 +1,10 @@
 -- An accepted request keeps the keys, in order, and every cell then names its marker's segment.
-use mathlib.Core.Path.{_≡_, refl, sym, ap, _∙_}
+use mathlib.Core.Path.{_≡_, refl, _∙_}
 use mathlib.Core.Bool.{Bool}
 use mathlib.Core.Option.{Option, none, some}
 use mathlib.Core.List.{List}
-use Prim.Native.Nat.{ℕ, _<_}
+use Prim.Native.Nat.{ℕ}
 use native.Mathlib.Omega.{arith}
-use lib.ListN.{length}
 use Rattle.lists.specs.Lists.{All}
 use Rattle.lists.proofs.Tests.{eq→eqb}
 use Rattle.lists.proofs.Members.{map-all}
@@ -15,12 +14,11 @@ use Rattle.slots.proofs.Windows.{pow-pos}
 use Rattle.slots.proofs.Keys.{member→mem}
 use Rattle.forecast.specs.declared.Cell.{Cell}
 use Rattle.forecast.specs.Steps.{aimed, retargeted, noted, dropped}
-use Rattle.rules.specs.declared.Request.{Request}
 use Rattle.rules.specs.declared.Request.the-variants.{Insert, Delete, Bad}
 use Rattle.rules.specs.Shares.{Shares, cellsOf}
 use Rattle.slots.specs.Keys.{predecessor}
-use Rattle.rules.specs.Placing.{Room, Outcome, home, settled, insertKey, deleteKey, outcome}
-use Rattle.rules.specs.Readings.{Proper, CellsAim}
+use Rattle.rules.specs.Placing.{Room, home, settled, insertKey, deleteKey, outcome}
+use Rattle.rules.specs.Readings.{CellsAim}
 use Rattle.rules.specs.Demand3.{KeysKept}
 use Rattle.rules.proofs.Accepted.{insert-accepted, delete-accepted, bad-refused}
 use Rattle.rules.proofs.Moved.{keys-insert, keys-delete}

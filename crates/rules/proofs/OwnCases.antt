@@ -2,8 +2,8 @@
 use mathlib.Core.Path.{_≡_, refl}
 use mathlib.Core.Bool.{Bool}
 use mathlib.Core.List.{List, [], _∷_, _++_, map, List·Memᴰ as Mem}
-use Prim.Native.Nat.{ℕ, zero, suc, _+_, _*_}
-use lib.ListN.{length, replicate}
+use Prim.Native.Nat.{ℕ, _*_}
+use lib.ListN.{replicate}
 use Rattle.lists.specs.Lists.{without, deal, joined, total}
 use Rattle.lists.proofs.Computed.{same, same→eq, all-at}
 use Rattle.slots.specs.Keys.{predecessor, segmentOf}

@@ -1,21 +1,16 @@
 -- A single call on list and forecast as lent: what it is where the check passes, and that what is valid stays valid.
-use mathlib.Core.Path.{_≡_, refl, sym, ap, _∙_, subst}
+use mathlib.Core.Path.{_≡_, refl, sym, ap, _∙_}
 use mathlib.Core.Bool.{Bool, true, false, not}
-use mathlib.Core.Logic.{_⊎_, inl, inr, _≢_}
+use mathlib.Core.Logic.{_≢_}
 use mathlib.Core.List.{List}
-use Prim.Native.Nat.{ℕ, _*_, _^_, _≤_}
-use native.Mathlib.Omega.{arith}
+use Prim.Native.Nat.{ℕ}
 use lib.Dec.{T, eqb, eqb→eq}
 use borrow.Author.Tests.{eq-eqb, ne-eqb}
 use lib.ListN.{length}
-use Rattle.lists.specs.Choice.{if_then_else_}
 use Rattle.lists.proofs.Tests.{neqb→ne}
-use Rattle.slots.specs.Segments.{heightOf, render}
-use Rattle.slots.proofs.Heights.{height-one}
+use Rattle.slots.specs.Segments.{heightOf}
 use Rattle.forecast.specs.declared.Forecast.{Forecast}
-use Rattle.forecast.specs.Cells.{forecastOf}
 use Rattle.rules.specs.declared.Request.{Request}
-use Rattle.rules.specs.Shares.{Lawful, shares}
 use Rattle.rules.specs.Placing.{Outcome, outcome}
 use Rattle.rules.specs.Checks.{sharesOf, check}
 use Rattle.rules.specs.Calls.{roomOf, Called, request, unchanged, changed}
@@ -23,7 +18,7 @@ use Rattle.rules.specs.Demand1.{RequestKeeps}
 use Rattle.rules.proofs.Table.{lawful}
 use Rattle.rules.proofs.Accepted.{refused-is}
 use Rattle.rules.proofs.Good.{Good, good-next}
-use Rattle.rules.proofs.Checked.{Passed, passed, list-passes, checked, height-render, check-render, length-good}
+use Rattle.rules.proofs.Checked.{passed, list-passes, checked, check-render, length-good}
 
 module _ (q : Request) (slots : List ℕ) (F : Forecast) where
   -- the outcome that the rules give for what is lent

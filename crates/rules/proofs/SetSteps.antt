@@ -1,19 +1,19 @@
 -- One request on a list that has passed its check, beside the plain set of its keys: the number, sparse, and the keys then.
-use mathlib.Core.Path.{_≡_, refl, sym, ap, ap₂, _∙_}
+use mathlib.Core.Path.{_≡_, refl, ap, _∙_}
 use mathlib.Core.Bool.{Bool, true, false, not, _&&_}
 use mathlib.Core.Option.{Option, none, some}
 use mathlib.Core.List.{List, List·Memᴰ as Mem}
-use Prim.Native.Nat.{ℕ, zero, suc}
+use Prim.Native.Nat.{ℕ}
 use lib.Dec.{T, leb, ltb, eqb}
 use lib.ListN.{length}
 use Rattle.lists.specs.Choice.{if_then_else_}
 use Rattle.slots.specs.Segments.{Segments, keys}
-use Rattle.slots.specs.Keys.{Listed, member, cut, segmentOf}
+use Rattle.slots.specs.Keys.{Listed, member, segmentOf}
 use Rattle.slots.proofs.Keys.{member→mem, segment-mem, around, keys-cut}
 use Rattle.forecast.specs.declared.Cell.{Cell}
 use Rattle.rules.specs.declared.Request.the-variants.{Insert, Delete}
 use Rattle.rules.specs.Shares.{Shares, capacity, floor}
-use Rattle.rules.specs.Placing.{Room, Outcome, refusedBy, cutFrom, settled, insertKey, deleteKey, deleteLevel, outcome}
+use Rattle.rules.specs.Placing.{Room, refusedBy, cutFrom, settled, insertKey, deleteKey, outcome}
 use Rattle.rules.specs.PlainSet as set
 use Rattle.rules.proofs.Accepted.{settled-number}
 use Rattle.rules.proofs.SetLaws.{has-member, cut-remove}

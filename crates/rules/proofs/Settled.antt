@@ -1,14 +1,14 @@
 -- A sweep and what is settled: keys, the number of segments, and the counts of windows inside, round and beside it.
-use mathlib.Core.Path.{_≡_, refl, sym, ap, _∙_, subst}
-use mathlib.Core.Bool.{Bool, true, false, _&&_, not}
-use mathlib.Core.Logic.{_⊎_, inl, inr, _≢_}
+use mathlib.Core.Path.{_≡_, refl, sym, ap, _∙_}
+use mathlib.Core.Bool.{Bool, not}
+use mathlib.Core.Logic.{_⊎_, inl, inr}
 use mathlib.Core.Option.{Option, none, some}
-use mathlib.Core.List.{List, [], _∷_, _++_, map}
-use Prim.Native.Nat.{ℕ, zero, suc, _+_, _-_, _*_, _/_, _^_, _≤_, _<_}
+use mathlib.Core.List.{List, map}
+use Prim.Native.Nat.{ℕ, zero, suc, _+_, _-_, _*_, _^_, _≤_, _<_}
 use native.Mathlib.Decide.{decLe}
 use native.Mathlib.Omega.{arith}
 use lib.Dec.{T, T-not, leb, eqb, leb→le, le→leb, eqb→eq}
-use lib.ListN.{length, take, drop, length-map}
+use lib.ListN.{length, length-map}
 use Rattle.lists.specs.Lists.{total, splice}
 use Rattle.lists.proofs.Tests.{and-left, and-right, and-both, eq→eqb}
 use Rattle.lists.proofs.Joined.{length-joined}

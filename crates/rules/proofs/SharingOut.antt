@@ -1,25 +1,23 @@
 -- Sharing out: nothing is lost, and every window strictly inside keeps to the shares of its parent's level.
-use mathlib.Core.Path.{_≡_, refl, sym, ap, ap₂, _∙_, subst}
-use mathlib.Core.Bool.{Bool, true, false}
-use mathlib.Core.Logic.{_⊎_, inl, inr}
-use mathlib.Core.List.{List, [], _∷_, _++_, map}
+use mathlib.Core.Path.{_≡_, sym, ap, ap₂, _∙_}
+use mathlib.Core.Logic.{inl, inr}
+use mathlib.Core.List.{List, _++_, map}
 use Prim.Native.Nat.{ℕ, zero, suc, _+_, _-_, _*_, _/_, _^_, _≤_, _<_, min, max}
-use native.Mathlib.Nat.{le-trans, le-refl, le-of-lt, mul-le-mul-left, eq-or-lt-of-le, le-of-suc-le-suc, not-suc-le-zero, pow-zero, one-mul, pow-succ'}
+use native.Mathlib.Nat.{le-trans, le-refl, le-of-lt, mul-le-mul-left, eq-or-lt-of-le, not-suc-le-zero, pow-zero}
 use native.Mathlib.Decide.{decLt}
 use native.Mathlib.Omega.{arith}
-use lib.Dec.{leb, ltb, eqb}
-use lib.ListN.{length, take, drop, length-append, length-map, length-take, length-drop}
+use lib.Dec.{eqb}
+use lib.ListN.{length, take, drop, length-append, length-map, length-drop}
 use lib.Seq.{length-take-le}
-use Rattle.lists.specs.Choice.{if_then_else_}
 use Rattle.lists.specs.Lists.{total}
 use Rattle.lists.proofs.Tests.{either}
 use Rattle.lists.proofs.Joined.{total-append, two-parts, joined-deal, counts-deal, length-deal}
-use Rattle.slots.specs.Segments.{Segments, keys}
-use Rattle.slots.specs.Windows.{start, window, count}
+use Rattle.slots.specs.Segments.{keys}
+use Rattle.slots.specs.Windows.{window, count}
 use Rattle.slots.proofs.Windows.{double, window-left, window-right, window-all}
 use Rattle.slots.proofs.Counts.{count-window}
 use Rattle.rules.specs.Shares.{Shares, Lawful}
-use Rattle.rules.specs.SharingOut.{Fraction, less, formula6, least, leftShare, plan, shareOut}
+use Rattle.rules.specs.SharingOut.{Fraction, less, least, leftShare, plan, shareOut}
 use Rattle.rules.specs.Readings.{Limits}
 
 -- the counts of a plan add up, one for each segment

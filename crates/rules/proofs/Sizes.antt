@@ -1,10 +1,10 @@
 -- No segment overflows and the list keeps to its capacity; an insert into a full segment always finds a window.
 use mathlib.Core.Path.{_≡_, refl, sym, ap, _∙_, subst}
 use mathlib.Core.Bool.{Bool, true, false, not}
-use mathlib.Core.Logic.{_⊎_, inl, inr, _≢_}
+use mathlib.Core.Logic.{inl, inr}
 use mathlib.Core.Option.{Option, none, some, Option·none-ne-some}
-use mathlib.Core.List.{List, [], _∷_, _++_, append-nil, List·Memᴰ as Mem, List·Memᴰ·append-cases as in-either}
-use Prim.Native.Nat.{ℕ, zero, suc, _+_, _*_, _^_, _≤_, _<_}
+use mathlib.Core.List.{List, [], append-nil, List·Memᴰ as Mem, List·Memᴰ·append-cases as in-either}
+use Prim.Native.Nat.{ℕ, suc, _+_, _^_, _≤_, _<_}
 use native.Mathlib.Nat.{pow-zero}
 use native.Mathlib.Omega.{arith}
 use lib.Dec.{T, ltb, ltb→lt, nltb→le}
@@ -16,23 +16,21 @@ use Rattle.lists.specs.Lists.{All}
 use Rattle.lists.proofs.Members.{mem-at, at-mem, mem-take, mem-drop, mem-set}
 use Rattle.slots.specs.Segments.{Segments, keys}
 use Rattle.slots.specs.Windows.{start, window, count}
-use Rattle.slots.specs.Keys.{Listed, member, put, cut, segmentOf}
+use Rattle.slots.specs.Keys.{member, put, cut, segmentOf}
 use Rattle.slots.proofs.Windows.{pow-pos, start-le, lt-end, window-zero}
 use Rattle.slots.proofs.Rising.{length-put, length-cut}
 use Rattle.slots.proofs.Keys.{not-member, member→mem, segment-mem, in-part, rising-part, home-between, keys-put}
 use Rattle.forecast.specs.declared.Cell.{Cell}
 use Rattle.forecast.specs.Cells.{weight}
-use Rattle.rules.specs.declared.Request.{Request}
 use Rattle.rules.specs.declared.Request.the-variants.{Insert, Delete, Bad}
 use Rattle.rules.specs.Shares.{Shares, Lawful, capacity}
-use Rattle.rules.specs.Placing.{Room, home, putIn, cutFrom, insertLevel, deleteLevel, frontWeight, newWindow, sweep, settled, chosen, insertKey, deleteKey, outcome}
-use Rattle.rules.specs.Readings.{Limits, Smallest, Proper, InsertFinds}
-use Rattle.rules.specs.History.{accepted}
+use Rattle.rules.specs.Placing.{Room, home, putIn, insertLevel, deleteLevel, frontWeight, newWindow, sweep, settled, chosen, insertKey, deleteKey}
+use Rattle.rules.specs.Readings.{Limits, Proper, InsertFinds}
 use Rattle.rules.specs.Demand3.{SizesKept}
 use Rattle.rules.proofs.SharingOut.{inside-shareOut, length-shareOut}
 use Rattle.rules.proofs.Climb.{within→limits, insert-finds, climb-is}
 use Rattle.rules.proofs.Settled.{Asked}
-use Rattle.rules.proofs.Accepted.{Inserts, insert-accepted, Deletes, delete-accepted, bad-refused}
+use Rattle.rules.proofs.Accepted.{insert-accepted, delete-accepted, bad-refused}
 use Rattle.rules.proofs.Moved.{asked-insert, asked-delete, keys-insert, keys-delete}
 
 abbrev Sized : Shares → Segments → Type 0

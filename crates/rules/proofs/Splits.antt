@@ -1,20 +1,20 @@
 -- The split in words: allowed, least by formula 6, the least of those, and nothing else. Neither denominator is 0.
-use mathlib.Core.Path.{_≡_, refl, sym, ap, _∙_, subst}
+use mathlib.Core.Path.{_≡_, sym, _∙_, subst}
 use mathlib.Core.Bool.{Bool, true, false, not}
-use mathlib.Core.Logic.{_⊎_, inl, inr, _≢_, _↔_}
+use mathlib.Core.Logic.{inl, inr, _≢_, _↔_}
 use mathlib.Core.List.{List}
 use Prim.Native.Nat.{ℕ, zero, suc, _+_, _-_, _*_, _/_, _^_, _≤_, _<_, min, max}
 use native.Mathlib.Nat.{ne-of-gt, eq-zero-or-pos, le-refl, mul-le-mul-left, mul-le-mul-right, mul-pos, le-of-mul-le-mul-right, eq-or-lt-of-le, mul-lt-mul-of-pos-right, lt-of-mul-lt-mul-right}
 use native.Mathlib.Decide.{decLt}
 use native.Mathlib.Omega.{arith}
-use lib.Dec.{T, ltb, eqb, ltb→lt, nltb→le}
+use lib.Dec.{T, ltb→lt, nltb→le}
 use borrow.Author.Tests.{ne-eqb}
 use lib.ListN.{length}
 use Rattle.lists.specs.Choice.{if_then_else_}
 use Rattle.lists.specs.Lists.{total}
 use Rattle.slots.proofs.Windows.{pow-pos, double}
 use Rattle.rules.specs.Shares.{Shares, Lawful}
-use Rattle.rules.specs.SharingOut.{Fraction, less, formula6, least, leftShare}
+use Rattle.rules.specs.SharingOut.{Fraction, less, least, leftShare}
 use Rattle.rules.specs.Readings.{Limits, AtMost, Below, Allowed, six, Split, SplitIs, NoZero}
 use Rattle.rules.proofs.SharingOut.{left-fits, least-from, fair}
 

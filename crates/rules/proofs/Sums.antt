@@ -1,7 +1,5 @@
 -- Document 01's sums 1 to 9 follow from the rules, by computation over the list of cases.
-use mathlib.Core.Path.{_≡_}
 use mathlib.Core.Bool.{Bool}
-use mathlib.Core.List.{List}
 use Rattle.lists.specs.Lists.{without}
 use Rattle.lists.proofs.Computed.{same, same→eq, all-at}
 use Rattle.slots.specs.Keys.{predecessor, segmentOf}

@@ -6,7 +6,7 @@ use native.Mathlib.Omega.{arith}
 use lib.Dec.{T, leb, ltb, eqb, eqb→eq, leb→le, ltb→lt}
 use Rattle.lists.proofs.Tests.{and-left, and-right}
 use Rattle.lists.proofs.Computed.{allBelow, below-at}
-use Rattle.rules.specs.Shares.{Shares, Lawful, shares, highBy, lowBy}
+use Rattle.rules.specs.Shares.{shares, highBy, lowBy}
 use Rattle.rules.specs.Readings.{Table, TableLawful}
 
 -- a test of each level below h + k, for each height h from 1 to 6

@@ -1,6 +1,6 @@
 -- The public calls, on slots, forecast, output, bytes and totals as they are lent: what each answers and leaves. (check stands in Checks.)
 use Prim.Native.Nat.{ℕ}
-use mathlib.Core.Bool.{Bool, true, false, not}
+use mathlib.Core.Bool.{false, not}
 use mathlib.Core.List.{List, []}
 use lib.Dec.{eqb}
 use lib.ListN.{length, replicate}
@@ -9,12 +9,12 @@ use Rattle.slots.specs.Segments.{heightOf, segmentsOf, render}
 use Rattle.forecast.specs.declared.Forecast.{Forecast}
 use Rattle.forecast.specs.Cells.{usedCells, forecastOf}
 use Rattle.rules.specs.declared.Request.{Request}
-use Rattle.rules.specs.declared.Request.the-variants.{Insert, Delete, Bad}
+use Rattle.rules.specs.declared.Request.the-variants.{Insert, Delete}
 use Rattle.rules.specs.declared.Totals.{Totals}
 use Rattle.rules.specs.Placing.{Room, Answer, Outcome, refused, outcome}
 use Rattle.rules.specs.Looking.{Found, notFound, lookedUp, Scanned, scanned}
 use Rattle.rules.specs.Checks.{sharesOf, checkList, check}
-use Rattle.rules.specs.Runs.{Tally, Ran, ran, added}
+use Rattle.rules.specs.Runs.{Ran, ran, added}
 
 -- What slots and forecast show, and the slots and the forecast that show it.
 abbrev pub roomOf : List ℕ → Forecast → Room

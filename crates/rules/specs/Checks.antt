@@ -1,6 +1,6 @@
 -- Document 01, "Refusal numbers", 1 to 4: what a check tests, in order.
 use Prim.Native.Nat.{ℕ}
-use mathlib.Core.Bool.{Bool, not}
+use mathlib.Core.Bool.{not}
 use mathlib.Core.List.{List}
 use lib.Dec.{ltb, eqb}
 use lib.ListN.{length}

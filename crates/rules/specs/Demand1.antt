@@ -1,9 +1,9 @@
 -- Demand 1. Every call checks what it is lent. A refused request gives its number and zero moves and changes neither list, forecast nor
 -- output; a run that stops keeps exactly the requests worked before the stop.
-use Prim.Native.Nat.{ℕ, zero, suc, _+_, _*_, _≤_}
+use Prim.Native.Nat.{ℕ, _+_, _*_, _≤_}
 use mathlib.Core.Path.{_≡_}
-use mathlib.Core.Bool.{Bool, false}
-use mathlib.Core.Logic.{_⊎_, _≢_, _↔_}
+use mathlib.Core.Bool.{false}
+use mathlib.Core.Logic.{_≢_, _↔_}
 use mathlib.Core.List.{List, [], _∷_}
 use lib.Dec.{ltb}
 use lib.ListN.{length, take}
@@ -11,11 +11,11 @@ use Rattle.lists.specs.Lists.{All}
 use Rattle.forecast.specs.declared.Forecast.{Forecast}
 use Rattle.forecast.specs.Cells.{forecastOf}
 use Rattle.rules.specs.declared.Request.{Request}
-use Rattle.rules.specs.declared.Request.the-variants.{Insert, Delete, Bad}
+use Rattle.rules.specs.declared.Request.the-variants.{Bad}
 use Rattle.rules.specs.declared.Totals.{Totals}
 use Rattle.rules.specs.Placing.{outcome}
 use Rattle.rules.specs.Looking.{notFound}
-use Rattle.rules.specs.Runs.{Tally, one, recordsOf, added}
+use Rattle.rules.specs.Runs.{one, recordsOf, added}
 use Rattle.rules.specs.Checks.{sharesOf, check}
 use Rattle.rules.specs.Calls.{roomOf, make, lookup, scan, request, insert, delete, unchanged, Worked, stoppedAtOnce, run}
 use Rattle.rules.specs.Rows.{Tells, NoneOf, row1, row2, row3, row4, row5, row6, row7, row8, row9, row10}

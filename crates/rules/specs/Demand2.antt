@@ -1,8 +1,7 @@
 -- Demand 2. Any sequence of inserts, deletes, lookups and scans on a list made empty is answered as a plain sorted set of at most half as
 -- many keys as slots would answer.
-use Prim.Native.Nat.{ℕ, zero, suc, _*_, _^_, _≤_, _<_}
+use Prim.Native.Nat.{ℕ, _*_, _^_, _≤_, _<_}
 use mathlib.Core.Path.{_≡_}
-use mathlib.Core.Bool.{Bool, true, false}
 use mathlib.Core.Logic.{_⊎_, _≢_, _↔_}
 use mathlib.Core.List.{List, [], _∷_, List·Memᴰ as Mem}
 use lib.Dec.{T}
@@ -10,7 +9,6 @@ use lib.ListN.{length}
 use Rattle.slots.specs.Segments.{live}
 use Rattle.slots.specs.Keys.{Rising}
 use Rattle.forecast.specs.declared.Forecast.{Forecast}
-use Rattle.rules.specs.Placing.{Answer}
 use Rattle.rules.specs.Looking.{Found, Scanned}
 use Rattle.rules.specs.Checks.{check}
 use Rattle.rules.specs.Calls.{make, lookup, scan, insert, delete}

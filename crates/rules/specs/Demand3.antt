@@ -1,8 +1,8 @@
 -- Demand 3, over any lawful shares and any forecast.
-use Prim.Native.Nat.{ℕ, zero, suc, _+_, _-_, _*_, _^_, _≤_, _<_}
+use Prim.Native.Nat.{ℕ, suc, _+_, _-_, _*_, _^_, _≤_, _<_}
 use mathlib.Core.Path.{_≡_}
-use mathlib.Core.Bool.{Bool, not}
-use mathlib.Core.Option.{Option, none, some}
+use mathlib.Core.Bool.{not}
+use mathlib.Core.Option.{some}
 use mathlib.Core.Logic.{_⊎_}
 use mathlib.Core.List.{List, [], _∷_, _++_}
 use lib.Dec.{T}

@@ -1,7 +1,7 @@
 -- The declarative readings of the split, the climb and the cells.
-use Prim.Native.Nat.{ℕ, zero, suc, _+_, _-_, _*_, _/_, _^_, _≤_, _<_}
+use Prim.Native.Nat.{ℕ, suc, _+_, _-_, _*_, _/_, _^_, _≤_, _<_}
 use mathlib.Core.Path.{_≡_}
-use mathlib.Core.Option.{Option, none, some}
+use mathlib.Core.Option.{none, some}
 use mathlib.Core.Logic.{_≢_, _↔_}
 use mathlib.Core.List.{List, []}
 use lib.ListN.{length, getD}
@@ -9,7 +9,6 @@ use Rattle.lists.specs.Lists.{All, total}
 use Rattle.slots.specs.Segments.{Segments, keys}
 use Rattle.slots.specs.Windows.{count}
 use Rattle.slots.specs.Keys.{Listed, segmentOf}
-use Rattle.forecast.specs.declared.Cell.{Cell}
 use Rattle.rules.specs.declared.Request.{Request}
 use Rattle.rules.specs.Shares.{Shares, Lawful, capacity, shares, highBy, lowBy}
 use Rattle.rules.specs.SharingOut.{Fraction, formula6, leftShare}

@@ -1,5 +1,5 @@
 -- Document 01, "Sums to check", 1 to 9: what is done, and the numbers that the document gives for it.
-use Prim.Native.Nat.{ℕ, zero, suc, _+_, _-_}
+use Prim.Native.Nat.{ℕ, zero, suc, _-_}
 use mathlib.Core.Path.{_≡_}
 use mathlib.Core.List.{List, [], _∷_, _++_, map, List·Memᴰ as Mem}
 use lib.ListN.{length, replicate}
@@ -7,7 +7,7 @@ use Rattle.slots.specs.Segments.{Segments}
 use Rattle.forecast.specs.declared.Cell.{Cell}
 use Rattle.forecast.specs.Cells.{cell, weight}
 use Rattle.rules.specs.declared.Request.{Request}
-use Rattle.rules.specs.declared.Request.the-variants.{Insert, Delete, Bad}
+use Rattle.rules.specs.declared.Request.the-variants.{Insert, Delete}
 use Rattle.rules.specs.Shares.{shares}
 use Rattle.rules.specs.SharingOut.{shareOut}
 use Rattle.rules.specs.Placing.{Room, Outcome, refusedBy, outcome}

@@ -1,16 +1,16 @@
 -- The counts of windows, by how many keys stand before a segment: what a changed segment and a sweep do to them.
-use mathlib.Core.Path.{_≡_, refl, sym, ap, ap₂, _∙_, subst}
+use mathlib.Core.Path.{_≡_, sym, ap, ap₂, _∙_, subst}
 use mathlib.Core.Logic.{_⊎_, inl, inr, _≢_}
 use mathlib.Core.List.{List, [], _∷_, _++_, map, append-assoc, append-nil}
 use Prim.Native.Nat.{ℕ, zero, suc, _+_, _-_, _*_, _/_, _^_, _≤_, _<_}
-use native.Mathlib.Nat.{not-suc-le-zero, le-of-suc-le-suc, add-comm, add-mul, add-mul-div-right, mul-assoc, mul-le-mul-right, mul-lt-mul-of-pos-right}
+use native.Mathlib.Nat.{not-suc-le-zero, le-of-suc-le-suc, add-comm, add-mul, add-mul-div-right, mul-assoc, mul-le-mul-right}
 use native.Mathlib.Decide.{decLt}
 use native.Mathlib.Omega.{arith}
 use lib.ListN.{length, take, drop, getD, set, length-append, length-take, length-drop, length-map, length-set, List·getD-map}
-use lib.Seq.{take-add, take-append-le, take-append-add, drop-append-add, drop-append-le, take-set-le, take-set-lt, getD-take, drop-drop, length-take-le, take-take, getD-set-same}
+use lib.Seq.{take-add, take-append-le, take-append-add, drop-append-add, drop-append-le, take-set-le, take-set-lt, getD-take, length-take-le, take-take, getD-set-same}
 use Rattle.lists.specs.Lists.{total, splice}
 use Rattle.lists.proofs.Joined.{total-append, length-joined}
-use Rattle.lists.proofs.Maps.{map-set, map-splice}
+use Rattle.lists.proofs.Maps.{map-set}
 use Rattle.slots.specs.Segments.{Segments, keys}
 use Rattle.slots.specs.Windows.{start, window, count}
 use Rattle.slots.proofs.Windows.{pow-pos, divides, start-le, lt-end, start-fits, map-window, window-zero}

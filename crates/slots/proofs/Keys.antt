@@ -1,11 +1,11 @@
 -- Where keys stand: membership, the predecessor, the segment of a key, and the keys before and after it.
 use mathlib.Core.Path.{_≡_, refl, sym, ap, ap₂, _∙_, subst}
-use mathlib.Core.Bool.{Bool, true, false, _||_, not}
+use mathlib.Core.Bool.{Bool, true, false, not}
 use mathlib.Core.Logic.{_⊎_, inl, inr, _≢_}
 use mathlib.Core.List.{List, [], _∷_, _++_}
 use mathlib.Core.List.{List·Memᴰ as Mem, List·Memᴰ·head as here, List·Memᴰ·tail as there, List·Memᴰ·not-nil as nowhere, List·Memᴰ·cases-cons as mem-cases}
 use mathlib.Core.List.{Memᴰ·append-left as in-left, Memᴰ·append-right as in-right, List·Memᴰ·append-cases as in-either, Memᴰ·cast}
-use Prim.Native.Nat.{ℕ, zero, suc, _+_, _≤_, _<_}
+use Prim.Native.Nat.{ℕ, suc, _+_, _≤_, _<_}
 use native.Mathlib.Nat.{lt-trans, ne-of-gt}
 use native.Mathlib.Decide.{decLt}
 use native.Mathlib.Omega.{arith}
@@ -16,12 +16,12 @@ use lib.Seq.{split-at, set-split, drop-drop}
 use Rattle.lists.specs.Choice.{if_then_else_}
 use Rattle.lists.specs.Lists.{All, joined, splice}
 use Rattle.lists.specs.Search.{placeBy}
-use Rattle.lists.proofs.Tests.{either, eq→eqb}
+use Rattle.lists.proofs.Tests.{either}
 use Rattle.lists.proofs.Only.{mem-only, any-some, some-any}
 use Rattle.lists.proofs.Joined.{joined-append}
 use Rattle.lists.proofs.Search.{place-mem, place-passes}
 use Rattle.slots.specs.Segments.{Segments, keys}
-use Rattle.slots.specs.Keys.{Rising, Listed, member, below, above, put, cut, largest, predecessor, segmentOf}
+use Rattle.slots.specs.Keys.{Rising, Listed, member, below, put, cut, largest, predecessor, segmentOf}
 use Rattle.slots.proofs.Rising.{rising-left, rising-right, rising-across, below-mem, put-parts, cut-parts}
 
 -- a test of membership

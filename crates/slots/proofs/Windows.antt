@@ -1,10 +1,9 @@
 -- Windows: where they begin, and the windows of a list that is two halves.
-use mathlib.Core.Path.{_≡_, refl, sym, ap, ap₂, _∙_, subst, subst₂}
+use mathlib.Core.Path.{_≡_, sym, ap, ap₂, _∙_, subst₂}
 use mathlib.Core.List.{List, [], _∷_, _++_, map}
-use Prim.Native.Nat.{ℕ, zero, suc, _+_, _-_, _*_, _/_, _^_, _≤_, _<_}
-use native.Mathlib.Nat.{pow-zero, pow-suc, div-div-eq-div-mul, pow-succ', mul-assoc, mul-comm, mul-le-mul-right, div-lt-iff-lt-mul, add-mul-div-right, one-le-pow, add-comm, add-mul, add-sub-of-le, div-eq-of-lt, zero-mul, div-mul-le-self, lt-div-mul-add}
+use Prim.Native.Nat.{ℕ, suc, _+_, _-_, _*_, _/_, _^_, _≤_, _<_}
+use native.Mathlib.Nat.{pow-zero, pow-suc, div-div-eq-div-mul, pow-succ', mul-assoc, mul-comm, mul-le-mul-right, div-lt-iff-lt-mul, add-mul-div-right, one-le-pow, add-comm, add-mul, div-eq-of-lt, zero-mul, div-mul-le-self, lt-div-mul-add}
 use native.Mathlib.Omega.{arith}
-use lib.Dec.{lit<}
 use lib.Pow.{pow-add}
 use lib.ListN.{length, take, drop, getD, length-drop}
 use lib.Seq.{take-append-le, drop-append-le, drop-append-add, take-all, take-add, drop-drop, drop-cons}

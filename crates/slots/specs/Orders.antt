@@ -1,7 +1,7 @@
 -- Refusal 2: keys not strictly rising, or a key after a gap in a segment. The first slot that breaks this, order tested first.
 use Prim.Native.Nat.{ℕ, _*_, _/_}
 use mathlib.Core.Bool.{Bool, _&&_, _||_}
-use mathlib.Core.Option.{Option, none, some}
+use mathlib.Core.Option.{none, some}
 use mathlib.Core.List.{List}
 use lib.Dec.{leb, eqb}
 use lib.ListN.{length, take, drop, getD}

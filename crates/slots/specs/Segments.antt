@@ -1,8 +1,8 @@
 -- Document 01, "The list a classroom lends": slots, segments and heights.
-use Prim.Native.Nat.{ℕ, zero, suc, _*_, _/_, _^_}
+use Prim.Native.Nat.{ℕ, _*_, _/_, _^_}
 use mathlib.Core.Bool.{Bool, not}
 use mathlib.Core.Option.{Option·getD}
-use mathlib.Core.List.{List, [], _∷_, map}
+use mathlib.Core.List.{List, map}
 use lib.Dec.{eqb}
 use lib.ListN.{length}
 use Rattle.lists.specs.Lists.{joined, only, padded, parts}

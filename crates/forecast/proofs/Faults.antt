@@ -27,7 +27,8 @@ use Rattle.forecast.specs.Cells.{zeroCell, usedCells, forecastOf}
 use Rattle.forecast.specs.Faults.{faultAt, isSound, faultOf}
 use Rattle.forecast.proofs.Laws.{used-forecastOf, length-forecastOf, forecastOf-used, forecastOf-cells}
 use Rattle.forecast.proofs.Ruled.{markerAt, Counted, Ruled, Placed}
-use Rattle.forecast.proofs.Readings.{Marker, nth, BadBy, tooMany, noCount, overCount, repeated, notLive, misplaced, notZero, Good, Fine, Says, read-at}
+use Rattle.forecast.specs.Held.{Marker}
+use Rattle.forecast.proofs.Readings.{nth, BadBy, tooMany, noCount, overCount, repeated, notLive, misplaced, notZero, Good, Fine, Says, read-at}
 
 module _ (P : ℕ) (ss : Segments) (F : Forecast) where
   -- at most P cells are used, and each cell is fine

@@ -6,3 +6,6 @@ pub mod Readings
 pub mod Faults
 pub mod Cases
 pub mod FaultCases
+pub mod Became
+pub mod Stepping
+pub mod Checked

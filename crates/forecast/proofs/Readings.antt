@@ -1,7 +1,7 @@
 -- What a reading of one cell finds, in words: it is fine, or it is bad in one of six ways.
 use mathlib.Core.Path.{_≡_, sym, ap, _∙_, subst}
 use mathlib.Core.Bool.{Bool, true, false, not, _&&_, _||_}
-use mathlib.Core.Logic.{_⊎_, inl, inr, _≢_}
+use mathlib.Core.Logic.{inl, inr, _≢_}
 use mathlib.Core.List.{List·Memᴰ as Mem}
 use Prim.Native.Nat.{ℕ, _≤_, _<_}
 use native.Mathlib.Omega.{arith}
@@ -20,13 +20,10 @@ use Rattle.forecast.specs.declared.Forecast.{Forecast}
 use Rattle.forecast.specs.declared.Fault.{Fault}
 use Rattle.forecast.specs.declared.Fault.the-variants.{Sound, TooMany, NotZero, Count, Repeated, NotLive, Misplaced}
 use Rattle.forecast.specs.Cells.{zeroCell, marks}
+use Rattle.forecast.specs.Held.{Marker}
 use Rattle.forecast.specs.Faults.{isZero, faultAt}
 use Rattle.forecast.proofs.Ruled.{Counted}
 use Rattle.slots.proofs.Keys.{member→mem, mem→member}
-
--- 0 for the front, or a live key
-abbrev pub Marker : Segments → ℕ → Type 0
-Marker ss k = (k ≡ 0) ⊎ Mem k (keys ss)
 
 -- the cell at a place
 abbrev pub nth : Forecast → ℕ → Cell

@@ -19,6 +19,13 @@ use Rattle.forecast.specs.Cells.{zeroCell, marks}
 abbrev pub isZero : Cell → Bool
 isZero c = eqb (c .marker) 0 && eqb (c .segment) 0 && eqb (c .count) 0
 
+-- What is wrong with a used cell's marker or segment, if anything. It is cell i.
+abbrev pub markerFault : Segments → Cell → ℕ → Fault
+markerFault ss c i =
+    if not (eqb (c .marker) 0 || member (c .marker) (keys ss)) then NotLive i
+    else if not (eqb (c .segment) (segmentOf ss (c .marker))) then Misplaced i
+    else Sound
+
 -- What is wrong with cell i, if anything.
 unfoldable pub faultAt : ℕ → Segments → Forecast → ℕ → Fault
 faultAt P ss F i =
@@ -26,9 +33,7 @@ faultAt P ss F i =
     if leb (F .used) i then (if isZero c then Sound else NotZero i)
     else if ltb (c .count) 1 || ltb P (c .count) then Count i
     else if anyOf (marks (c .marker)) (take i (F .cells)) then Repeated i
-    else if not (eqb (c .marker) 0 || member (c .marker) (keys ss)) then NotLive i
-    else if not (eqb (c .segment) (segmentOf ss (c .marker))) then Misplaced i
-    else Sound
+    else markerFault ss c i
 
 abbrev pub isSound : Fault → Bool
 isSound Sound = true

@@ -7,3 +7,5 @@ pub mod Maps
 pub mod Search
 pub mod Fill
 pub mod Parts
+pub mod Searched
+pub mod Overwritten

@@ -65,6 +65,13 @@ pub tested : (b : Bool) → T b ⊎ T (not b)
 tested true = inl tt
 tested false = inr tt
 
+-- two tests that pass together are one
+pub same-test : (a b : Bool) → (T a → T b) → (T b → T a) → a ≡ b
+same-test true true f g = refl
+same-test true false f g = absurd (f tt)
+same-test false true f g = absurd (g tt)
+same-test false false f g = refl
+
 pub neqb→ne : (m n : ℕ) → T (not (eqb m n)) → m ≢ n
 neqb→ne m n t e = T-not (eqb m n) t (subst (λ (z : ℕ). T (eqb m z)) e (eqb-refl m))
 

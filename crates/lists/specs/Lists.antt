@@ -29,6 +29,10 @@ module _ {ℓ} {A : Type ℓ} where
   abbrev pub splice : ℕ → ℕ → List A → List A → List A
   splice i n new xs = take i xs ++ (new ++ drop (i + n) xs)
 
+  -- with x put in front of the element at place i
+  unfoldable pub insertAt : ℕ → A → List A → List A
+  insertAt i x xs = take i xs ++ (x ∷ drop i xs)
+
   -- without the element at place i; the list itself past its end
   unfoldable pub without : ℕ → List A → List A
   without i xs = take i xs ++ drop (suc i) xs

@@ -18,7 +18,7 @@ use Rattle.forecast.specs.declared.Cell.{Cell}
 use Rattle.forecast.specs.Steps.{noted, dropped}
 use Rattle.forecast.proofs.Ruled.{Ruled, Placed, wider}
 use Rattle.forecast.proofs.Kept.{noted-ruled, dropped-ruled, retargeted-ruled}
-use Rattle.forecast.proofs.Readings.{Marker}
+use Rattle.forecast.specs.Held.{Marker}
 use Rattle.rules.specs.declared.Request.{Request}
 use Rattle.rules.specs.declared.Request.the-variants.{Insert, Delete, Bad}
 use Rattle.rules.specs.Shares.{Shares, Lawful, capacity, cellsOf}

@@ -32,3 +32,8 @@ pub mod Tells
 pub mod Rows
 pub mod Row4
 pub mod Numbers
+pub mod Weighing
+pub mod Unswept
+pub mod SweptWindow
+pub mod OutcomeCases
+pub mod MoveBound

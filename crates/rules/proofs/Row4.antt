@@ -18,7 +18,8 @@ use Rattle.slots.proofs.Keys.{segment-front}
 use Rattle.forecast.specs.declared.Cell.{Cell}
 use Rattle.forecast.specs.declared.Forecast.{Forecast}
 use Rattle.forecast.specs.Faults.{faultOf, isSound}
-use Rattle.forecast.proofs.Readings.{Marker, BadBy}
+use Rattle.forecast.specs.Held.{Marker}
+use Rattle.forecast.proofs.Readings.{BadBy}
 use Rattle.forecast.proofs.Faults.{fault-bad, bad-fault}
 use Rattle.rules.specs.Shares.{cellsOf}
 use Rattle.rules.specs.Checks.{sharesOf}

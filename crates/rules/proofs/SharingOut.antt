@@ -107,7 +107,7 @@ module _ (S : Shares) (L : Lawful S) where
       hi = rw double at (k .1)
 
   -- a half, held to its parent's level, is within its own limits
-  inner : (l c : ℕ) → l < S .height → Limits S l (suc l) c → Limits S l l c
+  pub inner : (l c : ℕ) → l < S .height → Limits S l (suc l) c → Limits S l l c
   inner l c h k =
       (le-trans (mul-le-mul-left (2 ^ l) (le-of-lt (L .rises l h))) (k .0), le-trans (k .1) (mul-le-mul-left (2 ^ l) (le-of-lt (L .falls l h))))
 

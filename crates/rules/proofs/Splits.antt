@@ -71,17 +71,17 @@ module _ (S : Shares) (l f : ℕ) (ws : List ℕ) where
             ]
       ]
 
-  abbrev first-i : ℕ
+  abbrev pub first-i : ℕ
   first-i = max (2 ^ l * S .low (suc l)) (length ws - 2 ^ l * S .high (suc l))
 
-  abbrev last-i : ℕ
+  abbrev pub last-i : ℕ
   last-i = min (2 ^ l * S .high (suc l)) (length ws - 2 ^ l * S .low (suc l))
 
-  share-even : f + total ws ≡ 0 → leftShare S l f ws ≡ (length ws + 1) / 2
+  pub share-even : f + total ws ≡ 0 → leftShare S l f ws ≡ (length ws + 1) / 2
   unfolding leftShare
   share-even e = rw e
 
-  share-least : f + total ws ≢ 0 → leftShare S l f ws ≡ least (six S l f ws) first-i (last-i - first-i)
+  pub share-least : f + total ws ≢ 0 → leftShare S l f ws ≡ least (six S l f ws) first-i (last-i - first-i)
   unfolding leftShare
   share-least n = rw (ne-eqb (f + total ws) 0 n)
 

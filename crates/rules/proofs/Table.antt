@@ -10,10 +10,10 @@ use Rattle.rules.specs.Shares.{shares, highBy, lowBy}
 use Rattle.rules.specs.Readings.{Table, TableLawful}
 
 -- a test of each level below h + k, for each height h from 1 to 6
-abbrev everywhere : ℕ → (ℕ → ℕ → Bool) → Bool
+abbrev pub everywhere : ℕ → (ℕ → ℕ → Bool) → Bool
 everywhere k p = allBelow 6 (λ h. allBelow (h + k) (p (suc h)))
 
-at : (k : ℕ) (p : ℕ → ℕ → Bool) → T (everywhere k p) → (h l : ℕ) → h < 6 → l < h + k → T (p (suc h) l)
+pub at : (k : ℕ) (p : ℕ → ℕ → Bool) → T (everywhere k p) → (h l : ℕ) → h < 6 → l < h + k → T (p (suc h) l)
 at k p t h l hb lb = below-at (h + k) (p (suc h)) (below-at 6 (λ h. allBelow (h + k) (p (suc h))) t h hb) l lb
 
 -- THE TABLE is the formulas

@@ -8,3 +8,16 @@ pub mod Marks
 pub mod Live
 pub mod Padded
 pub mod Render
+pub mod Moving
+pub mod Gaps
+pub mod Packing
+pub mod Spreading
+pub mod Carried
+pub mod ByPlace
+pub mod Stretched
+pub mod Readers
+pub mod SegmentReads
+pub mod Halving
+pub mod Seats
+pub mod Heads
+pub mod Tallies

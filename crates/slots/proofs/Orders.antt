@@ -85,7 +85,7 @@ stands xs a i j p q r =
 
 module _ (xs : List ℕ) (j : ℕ) where
   -- what a test that passes says, and that it passes
-  falls : T (notRising xs j) → (i : ℕ) × Falls xs i j
+  pub falls : T (notRising xs j) → (i : ℕ) × Falls xs i j
   falls t = go (any-some (leb (slotAt xs j)) (live (take j xs)) (and-right (isKey (slotAt xs j)) (anyOf (leb (slotAt xs j)) (live (take j xs))) t))
     where
       at : (k : ℕ) → T (isKey k) → slotAt xs j ≤ k → (i : ℕ) × (0 ≤ i) × (i < j) × (slotAt xs i ≡ k) → (i : ℕ) × Falls xs i j
@@ -97,7 +97,7 @@ module _ (xs : List ℕ) (j : ℕ) where
           let m = only-mem isKey (take j xs) (q .0) (q .1) in
           at (q .0) (m .0) (leb→le (slotAt xs j) (q .0) (q .2)) (placed xs 0 j (q .0) (m .1))
 
-  gaps : T (afterGap xs j) → (i : ℕ) × Gaps xs i j
+  pub gaps : T (afterGap xs j) → (i : ℕ) × Gaps xs i j
   gaps t = go (any-some (eqb 0) (drop (j / 64 * 64) (take j xs)) (and-right (isKey (slotAt xs j)) (anyOf (eqb 0) (drop (j / 64 * 64) (take j xs))) t))
     where
       at : (k : ℕ) → 0 ≡ k → (i : ℕ) × (j / 64 * 64 ≤ i) × (i < j) × (slotAt xs i ≡ k) → (i : ℕ) × Gaps xs i j
@@ -106,14 +106,14 @@ module _ (xs : List ℕ) (j : ℕ) where
       go : (k : ℕ) × Mem k (drop (j / 64 * 64) (take j xs)) × T (eqb 0 k) → (i : ℕ) × Gaps xs i j
       go q = at (q .0) (eqb→eq 0 (q .0) (q .2)) (placed xs (j / 64 * 64) j (q .0) (q .1))
 
-  falling : (i : ℕ) → Falls xs i j → T (notRising xs j)
+  pub falling : (i : ℕ) → Falls xs i j → T (notRising xs j)
   falling i f =
       and-both (isKey (slotAt xs j)) (anyOf (leb (slotAt xs j)) (live (take j xs))) (ne→neqb (slotAt xs j) 0 (f .2))
       (some-any (leb (slotAt xs j)) (live (take j xs)) (slotAt xs i)
       (mem-only isKey (take j xs) (slotAt xs i) (stands xs 0 i j (omega arith) (f .0) (in-list xs i (f .1))) (ne→neqb (slotAt xs i) 0 (f .1)))
       (le→leb (slotAt xs j) (slotAt xs i) (f .3)))
 
-  gapping : (i : ℕ) → Gaps xs i j → T (afterGap xs j)
+  pub gapping : (i : ℕ) → Gaps xs i j → T (afterGap xs j)
   gapping i f =
       let l : j < length xs = in-list xs j (f .3) in
       and-both (isKey (slotAt xs j)) (anyOf (eqb 0) (drop (j / 64 * 64) (take j xs))) (ne→neqb (slotAt xs j) 0 (f .3))
@@ -123,7 +123,8 @@ module _ (xs : List ℕ) (j : ℕ) where
 
 -- THE READING
 module _ (xs : List ℕ) where
-  abbrev fault : ℕ → Bool
+  -- slot i breaks the order, in either way
+  abbrev pub fault : ℕ → Bool
   fault i = notRising xs i || afterGap xs i
 
   abbrev read : Option ℕ → Order

@@ -2,3 +2,6 @@ pub mod Segments
 pub mod Windows
 pub mod Keys
 pub mod Orders
+pub mod Moves
+pub mod Shown
+pub mod Stretches

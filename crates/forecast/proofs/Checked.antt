@@ -1,0 +1,91 @@
+-- What a check of cells comes to, case by case: of a cell's marker by a search for it, of the cells before it, and of all cells.
+use mathlib.Core.Path.{_≡_, ap, sym, _∙_}
+use mathlib.Core.Bool.{Bool, true, false, not}
+use mathlib.Core.Logic.{inl, inr, _≢_}
+use mathlib.Core.List.{List}
+use mathlib.Core.Option.{none, some}
+use Prim.Native.Nat.{ℕ, _≤_, _<_}
+use native.Mathlib.Omega.{arith}
+use borrow.Author.Tests.{lt-ltb, le-ltb, eq-eqb, ne-eqb}
+use lib.Dec.{T}
+use lib.ListN.{length}
+use Rattle.lists.specs.Lists.{anyOf}
+use Rattle.lists.specs.Search.{first, placeBy}
+use Rattle.lists.proofs.Tests.{tested, is-true, is-false}
+use Rattle.lists.proofs.Members.{at-mem}
+use Rattle.lists.proofs.Only.{any-some, some-any}
+use Rattle.lists.proofs.Search.{place-passes, place-mem, first-is, first-none}
+use Rattle.slots.specs.Segments.{Segments, keys}
+use Rattle.slots.specs.Keys.{member, segmentOf}
+use Rattle.slots.specs.Shown.{Located}
+use Rattle.slots.specs.declared.Place.{Place}
+use Rattle.slots.proofs.Keys.{segment-front}
+use Rattle.slots.proofs.Seats.{seat-live}
+use Rattle.forecast.specs.declared.Cell.{Cell}
+use Rattle.forecast.specs.declared.Forecast.{Forecast}
+use Rattle.forecast.specs.declared.Fault.the-variants.{Sound, TooMany, NotLive, Misplaced}
+use Rattle.forecast.specs.Faults.{markerFault, faultAt, isSound, faultOf}
+
+-- A MARKER THAT IS THE FRONT is in segment 0
+pub front-is : (ss : Segments) (k : ℕ) → k ≡ 0 → segmentOf ss k ≡ 0
+front-is ss k e = ap (segmentOf ss) e ∙ segment-front ss
+
+module _ (ss : Segments) (c : Cell) (i : ℕ) (e : c .marker ≡ 0) where
+  -- in segment 0
+  pub front-sound : c .segment ≡ 0 → markerFault ss c i ≡ Sound
+  front-sound h = rw (eq-eqb (c .marker) 0 e, front-is ss (c .marker) e, eq-eqb (c .segment) 0 h)
+
+  -- in another
+  pub front-misplaced : c .segment ≢ 0 → markerFault ss c i ≡ Misplaced i
+  front-misplaced h = rw (eq-eqb (c .marker) 0 e, front-is ss (c .marker) e, ne-eqb (c .segment) 0 h)
+
+-- A MARKER THAT WAS SEARCHED FOR
+module _ (ss : Segments) (c : Cell) (i : ℕ) (n : c .marker ≢ 0) (r : Place) (l : Located (c .marker) ss r) where
+  -- found: the search ended in its segment
+  at-home : r .present ≡ true → segmentOf ss (c .marker) ≡ r .segment
+  at-home p = let t : T (member (c .marker) (keys ss)) = rw (← (l .present), p) tt in sym (seat-live (c .marker) ss t) ∙ sym (l .segment)
+
+  -- found where its cell says
+  pub live-sound : r .present ≡ true → c .segment ≡ r .segment → markerFault ss c i ≡ Sound
+  live-sound p h = rw (ne-eqb (c .marker) 0 n, ← (l .present), p, at-home p, eq-eqb (c .segment) (r .segment) h)
+
+  -- found elsewhere
+  pub live-misplaced : r .present ≡ true → c .segment ≢ r .segment → markerFault ss c i ≡ Misplaced i
+  live-misplaced p h = rw (ne-eqb (c .marker) 0 n, ← (l .present), p, at-home p, ne-eqb (c .segment) (r .segment) h)
+
+  -- not found
+  pub not-live : r .present ≡ false → markerFault ss c i ≡ NotLive i
+  not-live p = rw (ne-eqb (c .marker) 0 n, ← (l .present), p)
+
+-- WHETHER ONE PASSES, by the place of the first that does
+module _ {A : Type 0} (p : A → Bool) (xs : List A) where
+  -- it is a place of the list
+  pub any-placed : A → placeBy p xs < length xs → anyOf p xs ≡ true
+  any-placed d h = is-true (anyOf p xs) (some-any p xs _ (at-mem xs (placeBy p xs) d h) (place-passes p xs d h))
+
+  -- it is past the last
+  pub any-past : length xs ≤ placeBy p xs → anyOf p xs ≡ false
+  any-past h = is-false (anyOf p xs) (elim (tested (anyOf p xs)) [ inl t ↦ (let a = any-some p xs t in absurd (omega (arith, place-mem p xs (a .0) (a .1) (a .2)))) | inr t ↦ t ])
+
+-- THE FIRST FAULT
+module _ (P : ℕ) (ss : Segments) (F : Forecast) where
+  -- too many cells are used
+  pub fault-many : P < F .used → faultOf P ss F ≡ TooMany
+  unfolding faultOf
+  fault-many h = rw (lt-ltb P (F .used) h)
+
+  -- else that of the first cell with one
+  pub fault-first : F .used ≤ P → (k : ℕ) → k < length (F .cells) → ((j : ℕ) → j < k → isSound (faultAt P ss F j) ≡ true) → isSound (faultAt P ss F k) ≡ false → faultOf P ss F ≡ faultAt P ss F k
+  unfolding faultOf
+  fault-first u k h before e =
+      let f : first (λ i. not (isSound (faultAt P ss F i))) 0 (length (F .cells)) ≡ some k =
+      first-is (λ i. not (isSound (faultAt P ss F i))) 0 (length (F .cells)) k (omega arith, rw e tt, λ j a b. rw (before j b) tt) (omega arith) in
+      rw (le-ltb P (F .used) u, f)
+
+  -- else none
+  pub fault-none : F .used ≤ P → ((j : ℕ) → j < length (F .cells) → isSound (faultAt P ss F j) ≡ true) → faultOf P ss F ≡ Sound
+  unfolding faultOf
+  fault-none u all =
+      let f : first (λ i. not (isSound (faultAt P ss F i))) 0 (length (F .cells)) ≡ none =
+      first-none (λ i. not (isSound (faultAt P ss F i))) 0 (length (F .cells)) (λ j a b. rw (all j (omega arith)) tt) in
+      rw (le-ltb P (F .used) u, f)

@@ -1,0 +1,35 @@
+-- A forecast between two steps: its used cells, and zeros after them.
+use Prim.Native.Nat.{ℕ, _≤_, _<_}
+use mathlib.Core.Path.{_≡_}
+use mathlib.Core.Logic.{_⊎_}
+use mathlib.Core.List.{List, List·Memᴰ as Mem}
+use lib.ListN.{length, getD}
+use Rattle.lists.specs.Lists.{All, padded}
+use Rattle.slots.specs.Segments.{Segments, keys}
+use Rattle.forecast.specs.declared.Cell.{Cell}
+use Rattle.forecast.specs.declared.Forecast.{Forecast}
+use Rattle.forecast.specs.Cells.{zeroCell, usedCells}
+
+-- at most 12 cells in use, and the others all zeros
+pub record Tidy (F : Forecast) : Type 0 where
+  pub room : F .used ≤ 12
+  pub rest : F .cells ≡ padded 12 zeroCell (usedCells F)
+
+-- a tidy forecast with exactly these cells: there is one, `forecastOf cs`
+pub record Became (cs : List Cell) (F : Forecast) : Type 0 where
+  pub tidy : Tidy F
+  pub is : usedCells F ≡ cs
+
+-- 0 for the front, or a live key
+abbrev pub Marker : Segments → ℕ → Type 0
+Marker ss k = (k ≡ 0) ⊎ Mem k (keys ss)
+
+-- every used cell's marker is one
+abbrev pub Live : Segments → Forecast → Type 0
+Live ss F = All (λ c. Marker ss (c .marker)) (usedCells F)
+
+-- counts of at most 12, and markers that differ
+pub record Fitting (F : Forecast) : Type 0 where
+  pub small : All (λ c. c .count ≤ 12) (usedCells F)
+  pub apart : (i j : ℕ) → i < length (usedCells F) → j < length (usedCells F)
+      → getD (usedCells F) i zeroCell .marker ≡ getD (usedCells F) j zeroCell .marker → i ≡ j

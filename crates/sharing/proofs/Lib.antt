@@ -1,0 +1,12 @@
+pub mod Rows
+pub mod Products
+pub mod Weighing
+pub mod Scanning
+pub mod Splitting
+pub mod Lent
+pub mod Levels
+pub mod CellMarks
+pub mod Halves
+pub mod Inserted
+pub mod Spots
+pub mod ByLevel

@@ -1,0 +1,61 @@
+-- The constant table's rows are the rules' shares: one computed test over both.
+use mathlib.Core.Path.{_≡_}
+use mathlib.Core.Bool.{Bool, _&&_}
+use mathlib.Core.List.{List, [], _∷_}
+use Prim.Native.Nat.{ℕ, zero, suc, _≤_, _<_}
+use native.Mathlib.Omega.{arith}
+use lib.Dec.{T, leb, eqb, eqb→eq, leb→le}
+use Rattle.lists.proofs.Tests.{and-left, and-right}
+use Rattle.rules.specs.Shares.{shares, rowAt}
+use Rattle.rules.proofs.Table.{at}
+
+abbrev highs : List (List ℕ)
+highs =
+    (64 ∷ 32 ∷ 0 ∷ 0 ∷ 0 ∷ 0 ∷ 0 ∷ [])
+    ∷ (64 ∷ 48 ∷ 32 ∷ 0 ∷ 0 ∷ 0 ∷ 0 ∷ [])
+    ∷ (64 ∷ 53 ∷ 42 ∷ 32 ∷ 0 ∷ 0 ∷ 0 ∷ [])
+    ∷ (64 ∷ 56 ∷ 48 ∷ 40 ∷ 32 ∷ 0 ∷ 0 ∷ [])
+    ∷ (64 ∷ 57 ∷ 51 ∷ 44 ∷ 38 ∷ 32 ∷ 0 ∷ [])
+    ∷ (64 ∷ 58 ∷ 53 ∷ 48 ∷ 42 ∷ 37 ∷ 32 ∷ [])
+    ∷ []
+
+abbrev lows : List (List ℕ)
+lows =
+    (7 ∷ 13 ∷ 0 ∷ 0 ∷ 0 ∷ 0 ∷ 0 ∷ [])
+    ∷ (7 ∷ 10 ∷ 13 ∷ 0 ∷ 0 ∷ 0 ∷ 0 ∷ [])
+    ∷ (7 ∷ 9 ∷ 11 ∷ 13 ∷ 0 ∷ 0 ∷ 0 ∷ [])
+    ∷ (7 ∷ 8 ∷ 10 ∷ 12 ∷ 13 ∷ 0 ∷ 0 ∷ [])
+    ∷ (7 ∷ 8 ∷ 9 ∷ 11 ∷ 12 ∷ 13 ∷ 0 ∷ [])
+    ∷ (7 ∷ 8 ∷ 9 ∷ 10 ∷ 11 ∷ 12 ∷ 13 ∷ [])
+    ∷ []
+
+-- an entry is the share, and no larger than this
+abbrev right : List (List ℕ) → (ℕ → ℕ → ℕ) → ℕ → ℕ → ℕ → Bool
+right rows f most h l = eqb (rowAt rows h l) (f h l) && leb (rowAt rows h l) most
+
+abbrev rightHigh : ℕ → ℕ → Bool
+rightHigh = right highs (λ h l. shares h .high l) 64
+
+abbrev rightLow : ℕ → ℕ → Bool
+rightLow = right lows (λ h l. shares h .low l) 13
+
+tested : (h l : ℕ) → h < 6 → l ≤ suc h → T (rightHigh (suc h) l && rightLow (suc h) l)
+tested h l to within = at 2 (λ h l. rightHigh h l && rightLow h l) tt h l to (omega arith)
+
+-- what the test says of an entry
+read : (rows : List (List ℕ)) (f : ℕ → ℕ → ℕ) (most h l : ℕ) → T (right rows f most h l) → (rowAt rows h l ≡ f h l) × (rowAt rows h l ≤ most)
+read rows f most h l t = (
+  eqb→eq _ _ (and-left (eqb (rowAt rows h l) (f h l)) (leb (rowAt rows h l) most) t),
+  leb→le _ _ (and-right (eqb (rowAt rows h l) (f h l)) (leb (rowAt rows h l) most) t),
+)
+
+-- each entry of the two constants is the rules' share
+pub high-row : (h l : ℕ) → 1 ≤ h → h ≤ 6 → l ≤ h → (rowAt highs h l ≡ shares h .high l) × (rowAt highs h l ≤ 64)
+high-row zero l from to within = absurd (omega arith)
+high-row (suc h) l from to within =
+    read highs (λ h l. shares h .high l) 64 (suc h) l (and-left (rightHigh (suc h) l) (rightLow (suc h) l) (tested h l to within))
+
+pub low-row : (h l : ℕ) → 1 ≤ h → h ≤ 6 → l ≤ h → (rowAt lows h l ≡ shares h .low l) × (rowAt lows h l ≤ 13)
+low-row zero l from to within = absurd (omega arith)
+low-row (suc h) l from to within =
+    read lows (λ h l. shares h .low l) 13 (suc h) l (and-right (rightHigh (suc h) l) (rightLow (suc h) l) (tested h l to within))

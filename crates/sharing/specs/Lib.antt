@@ -1,0 +1,6 @@
+pub mod Marks
+pub mod Plans
+pub mod Climbs
+pub mod Tries
+pub mod Passing
+pub mod Steps

@@ -1,0 +1,38 @@
+-- What the loops under a search and a reading find, in any slots.
+use Prim.Native.Nat.{ℕ, _-_, _*_, _≤_, _<_}
+use mathlib.Core.Path.{_≡_}
+use mathlib.Core.Logic.{_≢_}
+use mathlib.Core.List.{List}
+use lib.Dec.{leb, eqb}
+use Rattle.lists.specs.Choice.{if_then_else_}
+use Rattle.slots.specs.declared.Order.{Order}
+use Rattle.slots.specs.declared.Order.the-variants.{NotRising, AfterGap}
+use Rattle.slots.specs.Orders.{slotAt}
+
+-- Of the segments from a to mid, r is the last that begins with a key, or a.
+pub record Filled (slots : List ℕ) (a mid r : ℕ) : Type 0 where
+  pub from : a ≤ r
+  pub to : r ≤ mid
+  pub after : (k : ℕ) → r < k → k ≤ mid → slotAt slots (64 * k) ≡ 0
+  pub there : a < r → slotAt slots (64 * r) ≢ 0
+
+-- From slot a up to r each slot is above the one before it, or above last at a; r is e or breaks that.
+abbrev pub before : List ℕ → ℕ → ℕ → ℕ → ℕ
+before slots a last i = if eqb i a then last else slotAt slots (i - 1)
+
+pub record Rises (slots : List ℕ) (a e last r : ℕ) : Type 0 where
+  pub from : a ≤ r
+  pub to : r ≤ e
+  pub rises : (i : ℕ) → a ≤ i → i < r → before slots a last i < slotAt slots i
+  pub stops : r < e → slotAt slots r ≤ before slots a last r
+
+-- The slots from a up to r are gaps; r is e or holds a key.
+pub record AllGaps (slots : List ℕ) (a e r : ℕ) : Type 0 where
+  pub from : a ≤ r
+  pub to : r ≤ e
+  pub gaps : (i : ℕ) → a ≤ i → i < r → slotAt slots i ≡ 0
+  pub stops : r < e → slotAt slots r ≢ 0
+
+-- How the key x breaks the order at slot j, where top is the largest key before it.
+abbrev pub faultOf : ℕ → ℕ → ℕ → Order
+faultOf x top j = if leb x top then NotRising j else AfterGap j

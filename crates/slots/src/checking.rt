@@ -1,0 +1,138 @@
+// Reading any slots: the height of their number, and the first slot that breaks the order.
+ghost use mathlib.Core.Path.{_≡_};
+ghost use Prim.Native.Nat.{ℕ, _+_, _*_, _≤_, _<_, min};
+ghost use lib.ListN.{length, getD};
+ghost use Rattle.slots.specs.Orders.{isKept};
+ghost use Rattle.slots.specs.Segments.{heightOf};
+ghost use Rattle.slots.specs.Shown.{Reads};
+ghost use Rattle.slots.specs.Stretches.{Rises, AllGaps, before, faultOf};
+use crate::Order;
+use crate::Reading;
+
+// The height of a list of `n` slots, or 0 where they are no list.
+pub fn height_of(n: usize) -> usize
+    ensures { λ r. ⌜ (r ≡ heightOf n) × (r ≤ 6) ⌝ }
+{
+    if n == 128 {
+        return 1;
+    }
+    if n == 256 {
+        return 2;
+    }
+    if n == 512 {
+        return 3;
+    }
+    if n == 1024 {
+        return 4;
+    }
+    if n == 2048 {
+        return 5;
+    }
+    if n == 4096 {
+        return 6;
+    }
+    0
+}
+
+// The first slot from `a` up to `e` that is not above the slot before it, or above `last` at `a`; `e` where there is none.
+fn rising_end(list: &[u64], a: usize, e: usize, last: u64) -> usize
+    requires { ⌜ (a ≤ e) × (e ≤ length (now list)) ⌝ }
+    ensures { λ r. ⌜ Rises (now (list .entry)) a e last r ⌝ }
+{
+    let mut top = last;
+    let mut i = a;
+    while i < e {
+        let x = list[i];
+        if x <= top {
+            return i;
+        }
+        top = x;
+        i += 1;
+    }
+    i
+}
+
+// The first slot from `a` up to `e` that is no gap; `e` where there is none.
+fn gaps_end(list: &[u64], a: usize, e: usize) -> usize
+    requires { ⌜ (a ≤ e) × (e ≤ length (now list)) ⌝ }
+    ensures { λ r. ⌜ AllGaps (now (list .entry)) a e r ⌝ }
+{
+    let mut i = a;
+    while i < e {
+        if list[i] != 0 {
+            return i;
+        }
+        i += 1;
+    }
+    i
+}
+
+// Where the segment that begins at slot `a` ends, of `n` slots: the last may be short.
+fn segment_end(a: usize, n: usize) -> usize
+    requires { ⌜ a < n ⌝ }
+    ensures { λ r. ⌜ r ≡ min (a + 64) n ⌝ }
+{
+    if n - a < 64 {
+        return n;
+    }
+    a + 64
+}
+
+// The slot before slot `i`, or `last` at `a`.
+fn slot_before(list: &[u64], a: usize, i: usize, last: u64) -> u64
+    requires { ⌜ (a ≤ i) × (i ≤ length (now list)) ⌝ }
+    ensures { λ r. ⌜ r ≡ before (now (list .entry)) a last i ⌝ }
+{
+    if i == a {
+        return last;
+    }
+    list[i - 1]
+}
+
+// How `key` breaks the order at slot `at`, where `top` is the largest key before it.
+fn fault_of(key: u64, top: u64, at: usize) -> Order
+    ensures { λ r. ⌜ r ≡ faultOf key top at ⌝ }
+{
+    if key <= top {
+        return Order::NotRising(at);
+    }
+    Order::AfterGap(at)
+}
+
+// The first slot that breaks the order, and the number of keys where none does. Of any slots.
+pub fn read_slots(list: &[u64]) -> Reading
+    ensures { λ r. ⌜ Reads (now (list .entry)) r ⌝ }
+{
+    let n = list.len();
+    let mut keys = 0;
+    let mut last = 0;
+    let mut a = 0;
+    while a < n {
+        let e = segment_end(a, n);
+        let i = rising_end(list, a, e, last);
+        let j = gaps_end(list, i, e);
+        let top = slot_before(list, a, i, last);
+        if j < e {
+            let order = fault_of(list[j], top, j);
+            return Reading { order, keys: 0 };
+        }
+        keys += i - a;
+        last = top;
+        a = e;
+    }
+    Reading {
+        order: Order::Kept,
+        keys,
+    }
+}
+
+// No slot breaks the order.
+pub fn is_kept(order: Order) -> bool
+    ensures { λ r. ⌜ r ≡ isKept order ⌝ }
+{
+    match order {
+        Order::Kept => true,
+        Order::NotRising(_) => false,
+        Order::AfterGap(_) => false,
+    }
+}

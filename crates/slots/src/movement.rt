@@ -1,0 +1,97 @@
+// Movement of slots, by positions and counts alone.
+ghost use mathlib.Core.Path.{_≡_};
+ghost use Prim.Native.Nat.{ℕ, _+_, _*_, _-_, _≤_, _<_};
+ghost use lib.ListN.{length, getD, take};
+ghost use Rattle.lists.specs.Lists.{total, deal};
+ghost use Rattle.slots.specs.Segments.{render};
+ghost use Rattle.slots.specs.Moves.{moved, cleared, opened, closed, Packed};
+
+// Copies `count` slots from index `from` to index `to`, which is no further right.
+pub fn move_left(part: &mut [u64], from: usize, to: usize, count: usize)
+    requires { ⌜ (to ≤ from) × (from + count ≤ length (now part)) ⌝ }
+    ensures { λ _. ⌜ now (part .exit) ≡ moved from to count (now (part .entry)) ⌝ }
+{
+    let mut i = 0;
+    while i < count {
+        part[to + i] = part[from + i];
+        i += 1;
+    }
+}
+
+// Copies `count` slots from index `from` to index `to`, which is no further left.
+pub fn move_right(part: &mut [u64], from: usize, to: usize, count: usize)
+    requires { ⌜ (from ≤ to) × (to + count ≤ length (now part)) ⌝ }
+    ensures { λ _. ⌜ now (part .exit) ≡ moved from to count (now (part .entry)) ⌝ }
+{
+    let mut i = count;
+    while 0 < i {
+        i -= 1;
+        part[to + i] = part[from + i];
+    }
+}
+
+// Writes 0 from index `a` up to index `e`.
+pub fn clear(part: &mut [u64], a: usize, e: usize)
+    requires { ⌜ (a ≤ e) × (e ≤ length (now part)) ⌝ }
+    ensures { λ _. ⌜ now (part .exit) ≡ cleared a e 0 (now (part .entry)) ⌝ }
+{
+    let mut i = a;
+    while i < e {
+        part[i] = 0;
+        i += 1;
+    }
+}
+
+// In a part whose first `n` slots are keys: `v` put in front of key `at`.
+pub fn open_gap(part: &mut [u64], n: usize, at: usize, v: u64)
+    requires { ⌜ (at ≤ n) × (n < length (now part)) ⌝ }
+    ensures { λ _. ⌜ now (part .exit) ≡ opened n at v (now (part .entry)) ⌝ }
+{
+    move_right(part, at, at + 1, n - at);
+    part[at] = v;
+}
+
+// In a part whose first `n` slots are keys: key `at` taken out.
+pub fn close_gap(part: &mut [u64], n: usize, at: usize)
+    requires { ⌜ (at < n) × (n ≤ length (now part)) ⌝ }
+    ensures { λ _. ⌜ now (part .exit) ≡ closed 0 n at (now (part .entry)) ⌝ }
+{
+    move_left(part, at + 1, at, n - at - 1);
+    part[n - 1] = 0;
+}
+
+// The keys of all segments moved to the front of the window, in place; the answer is how many.
+pub fn pack(window: &mut [u64], counts: &[usize]) -> usize
+    requires { ⌜ length (now window) ≡ 64 * length (now counts) ⌝ }
+    requires { ⌜ ((k : ℕ) → getD (now counts) k 0 ≤ 64) ⌝ }
+    ensures { λ r. ⌜ Packed (now (counts .entry)) (now (window .entry)) r (now (window .exit)) ⌝ }
+{
+    let mut at = 0;
+    let mut s = 0;
+    while s < counts.len() {
+        let c = counts[s];
+        move_left(window, 64 * s, at, c);
+        at += c;
+        s += 1;
+    }
+    at
+}
+
+// The first `m` slots dealt out to segments of so many keys each, in place.
+pub fn spread(window: &mut [u64], counts: &[usize], m: usize)
+    requires { ⌜ length (now window) ≡ 64 * length (now counts) ⌝ }
+    requires { ⌜ ((k : ℕ) → getD (now counts) k 0 ≤ 64) ⌝ }
+    requires { ⌜ total (now counts) ≡ m ⌝ }
+    ensures { λ _. ⌜ now (window .exit) ≡ render 0 (deal (now (counts .entry)) (take m (now (window .entry)))) ⌝ }
+{
+    let mut at = m;
+    let mut s = counts.len();
+    while 0 < s {
+        s -= 1;
+        let c = counts[s];
+        let to = 64 * s;
+        at -= c;
+        move_right(window, at, to, c);
+        clear(window, to + c, to + 64);
+    }
+}

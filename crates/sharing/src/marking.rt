@@ -59,14 +59,9 @@ fn mark_cell(
 }
 
 // The marks of the first `m` slots, which rise, into `at` and `weights`; the answer is how many.
-pub fn mark(
-    window: &[u64],
-    m: usize,
-    f: Forecast,
-    at: &mut [usize; 12],
-    weights: &mut [usize; 12],
-) -> usize
+pub fn mark(window: &[u64], m: usize, f: Forecast, at: &mut [usize], weights: &mut [usize]) -> usize
     requires { ⌜ m ≤ length (now window) ⌝ }
+    requires { ⌜ (length (now at) ≡ 12) × (length (now weights) ≡ 12) ⌝ }
     requires { ⌜ Tidy f ⌝ }
     ensures range { λ r. ⌜ r ≤ 12 ⌝ }
     ensures marks { λ r. ⌜ (Rising (take m (now (window .entry))) → Fitting f → Marked (map (weight (usedCells f)) (take m (now (window .entry)))) (take r (now (at .exit))) (take r (now (weights .exit)))) ⌝ }

@@ -4,7 +4,7 @@ use mathlib.Core.Bool.{not}
 use mathlib.Core.Logic.{inl, inr, _≢_}
 use mathlib.Core.List.{List, [], _∷_, _++_}
 use mathlib.Core.List.{List·Memᴰ as Mem, List·Memᴰ·head as here, List·Memᴰ·tail as there, List·Memᴰ·not-nil as nowhere, List·Memᴰ·cases-cons as mem-cases}
-use Prim.Native.Nat.{ℕ, _-_, _≤_, _<_}
+use Prim.Native.Nat.{ℕ, _+_, _-_, _≤_, _<_}
 use native.Mathlib.Decide.{decLt}
 use native.Mathlib.Omega.{arith}
 use lib.Dec.{T, ltb, lt→ltb}
@@ -74,3 +74,10 @@ module _ (y : ℕ) (ks : List ℕ) (h : Rising ks) where
   -- the place of one of the keys is among them
   pub place-old : Mem y ks → length (below y ks) < length ks
   place-old m = omega (arith, simp length-append at (ap length (about y ks h m)))
+
+  -- the keys above stand from there on: of a new key, and after one of the keys
+  pub drop-new : T (not (member y ks)) → drop (length (below y ks)) ks ≡ above y ks
+  drop-new n = ap (drop (length (below y ks))) (sym (apart y ks h (not-member y ks n))) ∙ drop-append-seam (below y ks) (above y ks)
+
+  pub drop-old : Mem y ks → drop (length (below y ks) + 1) ks ≡ above y ks
+  drop-old m = ap (drop (length (below y ks) + 1)) (sym (about y ks h m)) ∙ drop-append-add (below y ks) (y ∷ above y ks) 1

@@ -63,7 +63,8 @@ module _ (y : ℕ) (A B C : List ℕ) (a : All (λ k. k < y) A) (c : All (λ k. 
       ∙ ap₂ {C = List ℕ} _++_ (only-all (λ k. ltb k y) A (λ k m. lt→ltb k y (a k m)))
       (only-append (λ k. ltb k y) B C ∙ ap {B = List ℕ} (λ r. below y B ++ r) (only-none (λ k. ltb k y) C (λ k m. le→nltb y k (le-of-lt (c k m)))) ∙ append-nil (below y B))
 
-  above-parts : above y (A ++ (B ++ C)) ≡ above y B ++ C
+  -- the keys above y are those of the middle part, and all of the last
+  pub above-parts : above y (A ++ (B ++ C)) ≡ above y B ++ C
   above-parts =
       only-append (λ k. ltb y k) A (B ++ C)
       ∙ ap₂ {C = List ℕ} _++_ (only-none (λ k. ltb y k) A (λ k m. le→nltb k y (le-of-lt (a k m))))

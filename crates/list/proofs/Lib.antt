@@ -1,0 +1,9 @@
+pub mod Valid
+pub mod Numbers
+pub mod Replies
+pub mod Pages
+pub mod Stretches
+pub mod Above
+pub mod Papers
+pub mod OneOutcome
+pub mod Sums

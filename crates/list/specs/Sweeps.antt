@@ -1,0 +1,37 @@
+-- What the sweeps inside insert and delete ask for and leave.
+use Prim.Native.Nat.{ℕ, zero, suc, _*_, _^_, _≤_}
+use mathlib.Core.Path.{_≡_}
+use mathlib.Core.Bool.{not}
+use mathlib.Core.List.{List, [], map}
+use lib.Dec.{T}
+use lib.ListN.{length, take}
+use Rattle.slots.specs.Segments.{Segments, keys, segmentsOf, render}
+use Rattle.slots.specs.Keys.{Rising, member, put, cut}
+use Rattle.slots.specs.Shown.{Shows}
+use Rattle.forecast.specs.declared.Forecast.{Forecast}
+use Rattle.forecast.specs.Cells.{usedCells, weight}
+use Rattle.forecast.specs.Held.{Tidy, Fitting}
+use Rattle.rules.specs.Shares.{shares}
+use Rattle.rules.specs.SharingOut.{shareOut}
+use Rattle.sharing.specs.Plans.{Planned}
+
+-- A forecast that weighs: tidy, counts of at most 12, markers that differ.
+pub record Weighs (F : Forecast) : Type 0 where
+  pub tidy : Tidy F
+  pub fitting : Fitting F
+
+-- m keys shared out over a window of level l, by the forecast and the front's weight f.
+abbrev pub shared : ℕ → ℕ → Forecast → ℕ → List ℕ → List ℕ
+shared h l F f ks = render 0 (shareOut (shares h) (weight (usedCells F)) f l ks)
+
+-- The first m slots of a window of level l are its keys, rising, and are within its limits.
+pub record Packs (h l m : ℕ) (window : List ℕ) : Type 0 where
+  pub size : length window ≡ 64 * 2 ^ l
+  pub planned : Planned h l (2 ^ l) m
+  pub rising : Rising (take m window)
+
+-- A window of level l shows its segments, whose counts are these, and with m keys it is within its limits.
+pub record Windowed (h l m : ℕ) (counts window : List ℕ) : Type 0 where
+  pub shows : Shows (segmentsOf window) window
+  pub counted : counts ≡ map length (segmentsOf window)
+  pub planned : Planned h l (length counts) m

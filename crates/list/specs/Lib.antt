@@ -1,6 +1,7 @@
 pub mod Answers
 pub mod Admits
 pub mod Listings
-pub mod Scans
 pub mod Sweeps
 pub mod Stepped
+pub mod Changes
+pub mod Scans

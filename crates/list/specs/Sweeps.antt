@@ -1,12 +1,10 @@
 -- What the sweeps inside insert and delete ask for and leave.
-use Prim.Native.Nat.{ℕ, zero, suc, _*_, _^_, _≤_}
+use Prim.Native.Nat.{ℕ, _*_, _^_}
 use mathlib.Core.Path.{_≡_}
-use mathlib.Core.Bool.{not}
-use mathlib.Core.List.{List, [], map}
-use lib.Dec.{T}
+use mathlib.Core.List.{List, map}
 use lib.ListN.{length, take}
-use Rattle.slots.specs.Segments.{Segments, keys, segmentsOf, render}
-use Rattle.slots.specs.Keys.{Rising, member, put, cut}
+use Rattle.slots.specs.Segments.{segmentsOf, render}
+use Rattle.slots.specs.Keys.{Rising}
 use Rattle.slots.specs.Shown.{Shows}
 use Rattle.forecast.specs.declared.Forecast.{Forecast}
 use Rattle.forecast.specs.Cells.{usedCells, weight}

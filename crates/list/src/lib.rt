@@ -1,6 +1,11 @@
 // The event list: make, check, lookup, insert, delete and scan, on arrays and forecast as they are lent.
 pub mod calls;
+pub mod changing;
 pub mod reading;
+pub mod resowing;
+pub mod shifting;
+pub mod stepping;
+pub mod sweeping;
 
 use forecast::Forecast;
 

@@ -96,6 +96,14 @@ module _ (S : Shares) (y : ℕ) (R : Room) where
     unfolding deleteKey deleteLevel settled
     delete-unswept f e = delete-works ∙ rw (lt-ltb (length (cut y (getD (R .segments) (segmentOf (R .segments) y) []))) (S .low 0) f, e)
 
+    -- no window is swept, for either reason: a shift
+    pub delete-stays : deleteLevel S y (R .segments) ≡ none
+        → outcome S (Delete y) R
+        ≡ accept (cutFrom y (R .segments)) (dropped y (R .cells)) (length (above y (getD (R .segments) (segmentOf (R .segments) y) []))) false
+        (ltb (length (keys (cutFrom y (R .segments)))) (floor S))
+    unfolding deleteKey settled
+    delete-stays e = delete-works ∙ rw e
+
     -- it has too few: a sweep of the window of level l
     pub delete-swept : (l : ℕ) → length (cut y (getD (R .segments) (segmentOf (R .segments) y) [])) < S .low 0 → chosen S (segmentOf (R .segments) y) (cutFrom y (R .segments)) ≡ some l
         → outcome S (Delete y) R

@@ -1,0 +1,798 @@
+#!/usr/bin/env python3
+"""Reference model of the paper "Requirements and rules for the build".
+
+Section names in the comments are that paper's. Every rule is written as it is
+read there, plainly and slowly. No call changes what it is lent: each hands
+back new lists.
+
+  array     a list of whole numbers, 0 for a gap
+  forecast  a pair (used, cells), cells a list of 12 [marker, segment, count],
+            head (newest) first
+  totals    [records worked, refused, keys moved, sweeps]
+
+  make(slots)                   -> (number, slots', forecast')
+  check(slots, forecast)        -> number
+  lookup(slots, key)            -> (number, present, segment)
+  insert(slots, forecast, key)  -> (number, moves, slots', forecast')
+  delete(slots, forecast, key)  -> (number, moves, sparse, slots', forecast')
+  scan(slots, a, output)        -> (number, written, more, output')
+  run(slots, forecast, data, allowance, totals)
+        -> (worked, refused, moves, stop, place, slots', forecast', totals')
+  first_fault(slots)                 -> None or (slot, 'order' or 'gap')
+  first_bad_cell(slots, forecast)    -> None or (cell, reason)
+
+  python3 model.py --selftest          the paper's sums
+  python3 model.py --listrun < file    the program `listrun`
+  python3 model.py --random [n [seed]] the demands, tried on random requests
+"""
+
+import os
+import sys
+from fractions import Fraction
+
+SEGMENT = 64        # slots in a segment
+ROOM = 12           # cells kept in a forecast
+
+
+# ---- The list a classroom lends ------------------------------------------
+
+def height(slots):
+    """h when the length is 64 * 2^h with h from 1 to 6, else None."""
+    for h in range(1, 7):
+        if len(slots) == SEGMENT * 2 ** h:
+            return h
+    return None
+
+
+def most_keys(h):
+    """A list never holds more than this."""
+    return 32 * 2 ** h
+
+
+def live_keys(slots):
+    """The keys, in array order."""
+    return [key for key in slots if key != 0]
+
+
+def segment_of(slots, key):
+    """The segment where a live key stands."""
+    return slots.index(key) // SEGMENT
+
+
+def to_segments(slots):
+    """The keys of each segment."""
+    return [live_keys(slots[start:start + SEGMENT])
+            for start in range(0, len(slots), SEGMENT)]
+
+
+def to_slots(segments):
+    """In a segment the keys stand first; gaps follow."""
+    slots = []
+    for keys in segments:
+        assert len(keys) <= SEGMENT
+        slots += keys + [0] * (SEGMENT - len(keys))
+    return slots
+
+
+def window_start(segment, level):
+    """First segment of the window of this level round the segment."""
+    return segment - segment % 2 ** level
+
+
+# ---- High and low shares -------------------------------------------------
+
+def high(h, l):
+    """32(2h - l)/h rounded down."""
+    return 32 * (2 * h - l) // h
+
+
+def low(h, l):
+    """32(h + l)/(5h) rounded up."""
+    return (32 * (h + l) + 5 * h - 1) // (5 * h)
+
+
+def within_limits(h, l, count):
+    """A window of level l with this count is within limits."""
+    return 2 ** l * low(h, l) <= count <= 2 ** l * high(h, l)
+
+
+# ---- The forecast --------------------------------------------------------
+
+def most_cells(h):
+    """P, the most cells and the highest count."""
+    return 6 + h
+
+
+def used_cells(forecast):
+    """The used cells alone, as new lists. For a checked forecast."""
+    used, cells = forecast
+    return [list(cell) for cell in cells[:used]]
+
+
+def as_forecast(cells):
+    """Used cells back in their room of 12; unused cells are all zeros."""
+    return (len(cells),
+            [list(cell) for cell in cells]
+            + [[0, 0, 0] for _ in range(ROOM - len(cells))])
+
+
+def copy_forecast(forecast):
+    """A copy, with nothing put right in it."""
+    used, cells = forecast
+    assert len(cells) == ROOM, 'a forecast has room for 12 cells'
+    return (used, [list(cell) for cell in cells])
+
+
+def drop_tail_by_one(cells):
+    """The tail's count drops by one; at 0 its cell is removed."""
+    cells[-1][2] -= 1
+    if cells[-1][2] == 0:
+        del cells[-1]
+
+
+def note_insert(h, forecast, x, x_segment):
+    """Note the predecessor x (0 for the front) of a key being inserted."""
+    P = most_cells(h)
+    cells = used_cells(forecast)
+    places = [n for n, cell in enumerate(cells) if cell[0] == x]
+    if places:
+        n = places[0]
+        if cells[n][2] < P:
+            cells[n][2] += 1
+            if n > 0:
+                cells[n - 1], cells[n] = cells[n], cells[n - 1]
+        else:
+            drop_tail_by_one(cells)
+    elif len(cells) < P:
+        cells.insert(0, [x, x_segment, 1])
+    else:
+        drop_tail_by_one(cells)
+    return as_forecast(cells)
+
+
+def drop_marker(forecast, key):
+    """Deleting a marker removes its cell and the others close up."""
+    return as_forecast([cell for cell in used_cells(forecast)
+                        if cell[0] != key])
+
+
+def retarget(forecast, slots):
+    """Every cell names its marker's actual segment, 0 for the front."""
+    cells = used_cells(forecast)
+    for cell in cells:
+        cell[1] = 0 if cell[0] == 0 else segment_of(slots, cell[0])
+    return as_forecast(cells)
+
+
+def weights_of(forecast):
+    """Marker to count. A key that is not here has weight 0."""
+    return {marker: count for marker, _, count in used_cells(forecast)}
+
+
+# ---- Sharing out a swept window ------------------------------------------
+
+def left_share(h, l, weights, front):
+    """Keys the left half takes.
+
+    weights: one for each key of the window, in order. front: the front's
+    weight when the window begins at slot 0, else 0.
+    """
+    m = len(weights)
+    if front == 0 and all(w == 0 for w in weights):
+        return (m + 1) // 2                     # m/2 rounded up
+    C = 32 * 2 ** l                             # slots of each half
+    least = 2 ** (l - 1) * low(h, l)
+    most = 2 ** (l - 1) * high(h, l)
+    total = front + sum(weights)
+    left = front                                # weight of the first i keys
+    best = None
+    for i in range(0, m + 1):
+        if i > 0:
+            left += weights[i - 1]
+        if not (least <= i <= most and least <= m - i <= most):
+            continue
+        right = total - left
+        # | left/(C - i) - right/(C - m + i) | as one fraction up/down
+        up = abs(left * (C - m + i) - right * (C - i))
+        down = (C - i) * (C - m + i)
+        assert C - i > 0 and C - m + i > 0
+        if best is None or up * best[1] < best[0] * down:
+            best = (up, down, i)                # ties keep the least i
+    assert best is not None, 'a window within limits has a permitted split'
+    return best[2]
+
+
+def share_out(h, l, start, keys, weights):
+    """Key lists for the segments of the window of level l at segment start."""
+    if l == 0:
+        return [keys]
+    front = weights.get(0, 0) if start == 0 else 0
+    i = left_share(h, l, [weights.get(key, 0) for key in keys], front)
+    return (share_out(h, l - 1, start, keys[:i], weights)
+            + share_out(h, l - 1, start + 2 ** (l - 1), keys[i:], weights))
+
+
+# ---- Refusals 1 to 4 -----------------------------------------------------
+
+def first_fault(slots):
+    """First slot that breaks refusal 2's rule, order tested first.
+
+    None when none does, and when the length is refused by 1.
+    """
+    if height(slots) is None:
+        return None
+    latest = 0                                  # the key before this slot
+    gap = False                                 # a gap earlier in the segment
+    for slot, key in enumerate(slots):
+        if slot % SEGMENT == 0:
+            gap = False
+        if key == 0:
+            gap = True
+            continue
+        if key <= latest:
+            return (slot, 'order')
+        if gap:
+            return (slot, 'gap')
+        latest = key
+    return None
+
+
+def list_refusal(slots):
+    """Refusals 1 to 3, or 0."""
+    h = height(slots)
+    if h is None:
+        return 1
+    if first_fault(slots) is not None:
+        return 2
+    if len(live_keys(slots)) > most_keys(h):
+        return 3
+    return 0
+
+
+def first_bad_cell(slots, forecast, earlier_only=False):
+    """First cell, from the head, that refusal 4 speaks of, with the reason.
+
+    None when refusal 4 does not apply, and when one of 1 to 3 does.
+    (None, 'used') when over P cells are used: no single cell is at fault.
+    A cell whose marker is another's is bad whichever of the two comes first;
+    with earlier_only, only the later of the two is.
+    """
+    used, cells = copy_forecast(forecast)
+    if list_refusal(slots) != 0:
+        return None
+    P = most_cells(height(slots))
+    if used > P:
+        return (None, 'used')
+    for n in range(ROOM):
+        marker, segment, count = cells[n]
+        if n >= used:
+            if [marker, segment, count] != [0, 0, 0]:
+                return (n, 'unused')
+            continue
+        if not 1 <= count <= P:
+            return (n, 'count')
+        others = [cells[o][0] for o in range(n if earlier_only else used)
+                  if o != n]
+        if marker in others:
+            return (n, 'another')
+        if marker != 0 and marker not in slots:
+            return (n, 'not live')
+        if segment != (0 if marker == 0 else segment_of(slots, marker)):
+            return (n, 'segment')
+    return None
+
+
+def check(slots, forecast):
+    """Tests 1 to 4, gives 0 when none applies."""
+    number = list_refusal(slots)
+    if number == 0 and first_bad_cell(slots, forecast) is not None:
+        number = 4
+    return number
+
+
+# ---- Making, lookup, scan ------------------------------------------------
+
+def make(slots):
+    if height(slots) is None:
+        return (1, list(slots), as_forecast([]))
+    return (0, [0] * len(slots), as_forecast([]))
+
+
+def lookup(slots, key):
+    number = list_refusal(slots)
+    if number == 0 and key == 0:
+        number = 5
+    if number != 0:
+        return (number, False, 0)
+    if key in slots:
+        return (0, True, segment_of(slots, key))
+    return (0, False, 0)
+
+
+def scan(slots, a, output):
+    output = list(output)
+    number = list_refusal(slots)
+    if number != 0:
+        return (number, 0, False, output)
+    above = [key for key in live_keys(slots) if key > a]
+    written = min(len(above), len(output))
+    output[:written] = above[:written]
+    last = a if written == 0 else output[written - 1]
+    more = any(key > last for key in live_keys(slots))
+    return (0, written, more, output)
+
+
+# ---- Placing and removing ------------------------------------------------
+#
+# The two below take a checked list and forecast, and test 5 to 8. They give
+# (number, moves, sparse, window, slots', forecast'), window being None or the
+# chosen one as (level, first segment).
+
+def sweep(h, segments, at, l, extra, forecast):
+    """Sweep the window of level l round segment at. Gives its moves."""
+    start = window_start(at, l)
+    keys = window_keys(segments, at, l, extra)
+    segments[start:start + 2 ** l] = share_out(h, l, start, keys,
+                                               weights_of(forecast))
+    return len(keys)
+
+
+def window_keys(segments, at, l, extra):
+    """Keys of the window of level l round segment at, with any new key."""
+    start = window_start(at, l)
+    return sorted(sum(segments[start:start + 2 ** l], []) + extra)
+
+
+def smallest_within_limits(h, segments, at, extra):
+    """Level of the smallest enclosing window within limits, or None."""
+    for l in range(1, h + 1):
+        if within_limits(h, l, len(window_keys(segments, at, l, extra))):
+            return l
+    return None
+
+
+def work_insert(slots, forecast, y):
+    h = height(slots)
+    number = 0
+    if y == 0:
+        number = 5
+    elif y in slots:
+        number = 6
+    elif len(live_keys(slots)) == most_keys(h):
+        number = 8
+    if number != 0:
+        return (number, 0, False, None, list(slots), copy_forecast(forecast))
+
+    # Note the predecessor first: the largest live key below y, or the front.
+    x = max([key for key in live_keys(slots) if key < y], default=0)
+    at = 0 if x == 0 else segment_of(slots, x)
+    forecast = note_insert(h, forecast, x, at)
+
+    segments = to_segments(slots)
+    window = None
+    if len(segments[at]) < SEGMENT:
+        shifted = [key for key in segments[at] if key > y]
+        moves = len(shifted) + 1
+        segments[at] = sorted(segments[at] + [y])
+    else:
+        l = smallest_within_limits(h, segments, at, [y])
+        assert l is not None, 'the whole array is within limits if no smaller'
+        moves = sweep(h, segments, at, l, [y], forecast)
+        window = (l, window_start(at, l))
+    slots = to_slots(segments)
+    return (0, moves, False, window, slots, retarget(forecast, slots))
+
+
+def work_delete(slots, forecast, y):
+    h = height(slots)
+    number = 0
+    if y == 0:
+        number = 5
+    elif y not in slots:
+        number = 7
+    if number != 0:
+        return (number, 0, False, None, list(slots), copy_forecast(forecast))
+
+    forecast = drop_marker(forecast, y)
+    at = segment_of(slots, y)
+    segments = to_segments(slots)
+    moves = len([key for key in segments[at] if key > y])
+    segments[at].remove(y)
+    window = None
+    if len(segments[at]) < 7:
+        l = smallest_within_limits(h, segments, at, [])
+        if l is not None:
+            moves = sweep(h, segments, at, l, [], forecast)
+            window = (l, window_start(at, l))
+    slots = to_slots(segments)
+    sparse = len(live_keys(slots)) < 13 * 2 ** h
+    return (0, moves, sparse, window, slots, retarget(forecast, slots))
+
+
+def insert(slots, forecast, key):
+    number = check(slots, forecast)
+    if number != 0:
+        return (number, 0, list(slots), copy_forecast(forecast))
+    number, moves, _, _, slots, forecast = work_insert(slots, forecast, key)
+    return (number, moves, slots, forecast)
+
+
+def delete(slots, forecast, key):
+    number = check(slots, forecast)
+    if number != 0:
+        return (number, 0, False, list(slots), copy_forecast(forecast))
+    number, moves, sparse, _, slots, forecast = work_delete(slots, forecast,
+                                                            key)
+    return (number, moves, sparse, slots, forecast)
+
+
+# ---- Request records and runs --------------------------------------------
+
+RECORD = 11
+
+
+def record(kind, key):
+    """One record: mark, kind, key high byte first."""
+    return bytes([0xA5, 0x5A, kind]) + key.to_bytes(8, 'big')
+
+
+def run(slots, forecast, data, allowance, totals):
+    slots = list(slots)
+    forecast = copy_forecast(forecast)
+    totals = list(totals)
+    number = check(slots, forecast)
+    if number != 0:
+        return (0, 0, 0, number, 0, slots, forecast, totals)
+
+    worked = refused = moved = sweeps = 0
+    stop = 0
+    place = 0
+    while place < len(data):
+        one = bytes(data[place:place + RECORD])
+        if len(one) < RECORD or one[0:2] != b'\xa5\x5a' or one[2] not in (1, 2):
+            stop = 9
+            break
+        key = int.from_bytes(one[3:11], 'big')
+        work = work_insert if one[2] == 1 else work_delete
+        number, moves, _, window, slots_after, forecast_after = work(
+            slots, forecast, key)
+        if moved + moves > allowance:
+            stop = 10
+            break
+        worked += 1
+        if number != 0:                         # 5 to 8: the run goes on
+            refused += 1
+        moved += moves
+        if window is not None:
+            sweeps += 1
+        slots, forecast = slots_after, forecast_after
+        place += RECORD
+
+    totals = [(total + more) % 2 ** 32
+              for total, more in zip(totals, [worked, refused, moved, sweeps])]
+    return (worked, refused, moved, stop, place, slots, forecast, totals)
+
+
+# ---- The program listrun -------------------------------------------------
+
+def listrun_text(data):
+    """What `listrun` prints for these (at most 65,536) bytes."""
+    _, slots, forecast = make([0] * 256)
+    _, _, moves, stop, _, slots, forecast, totals = run(
+        slots, forecast, data, 1000000, [0, 0, 0, 0])
+    lines = ['keys %d moved %d swept %d stop %d'
+             % (len(live_keys(slots)), moves, totals[3], stop)]
+    for n, keys in enumerate(to_segments(slots)):
+        lines.append('%d %d' % (n, len(keys)))
+    return '\n'.join(lines) + '\n'
+
+
+def listrun():
+    """Read straight from descriptor 0, so that further input stays unread."""
+    data = b''
+    while len(data) < 65536:
+        part = os.read(0, 65536 - len(data))
+        if part == b'':
+            break
+        data += part
+    sys.stdout.write(listrun_text(data))
+    sys.stdout.flush()
+
+
+# ---- Sums to check -------------------------------------------------------
+
+class Tally:
+    def __init__(self):
+        self.passed = self.failed = 0
+
+    def same(self, name, got, wanted):
+        if got == wanted:
+            self.passed += 1
+        else:
+            self.failed += 1
+            print('FAILED %s: got %r, wanted %r' % (name, got, wanted))
+
+    def close(self):
+        print('%d passed, %d failed' % (self.passed, self.failed))
+        return 0 if self.failed == 0 else 1
+
+
+def counts(slots):
+    return [len(keys) for keys in to_segments(slots)]
+
+
+def list_with(*sizes):
+    """An array whose segments hold these many keys: 1, 2, 3 ... in order."""
+    segments, key = [], 1
+    for size in sizes:
+        segments.append(list(range(key, key + size)))
+        key += size
+    return to_slots(segments)
+
+
+def insert_all(h, keys):
+    """Insert into an empty list; gives the last moves, slots, forecast."""
+    _, slots, forecast = make([0] * (SEGMENT * 2 ** h))
+    for key in keys:
+        number, moves, slots, forecast = insert(slots, forecast, key)
+        assert number == 0
+    return moves, slots, forecast
+
+
+TABLE = {   # the paper's printed rows, used here only, against the formulas
+    1: ([64, 32], [7, 13]),
+    2: ([64, 48, 32], [7, 10, 13]),
+    3: ([64, 53, 42, 32], [7, 9, 11, 13]),
+    4: ([64, 56, 48, 40, 32], [7, 8, 10, 12, 13]),
+    5: ([64, 57, 51, 44, 38, 32], [7, 8, 9, 11, 12, 13]),
+    6: ([64, 58, 53, 48, 42, 37, 32], [7, 8, 9, 10, 11, 12, 13]),
+}
+
+
+def selftest():
+    t = Tally()
+    empty = as_forecast([])
+
+    for h in TABLE:
+        t.same('shares h=%d' % h,
+               ([high(h, l) for l in range(h + 1)],
+                [low(h, l) for l in range(h + 1)]), TABLE[h])
+
+    moves, slots, forecast = insert_all(2, range(1, 66))
+    t.same('sum 1', (moves, counts(slots), forecast[0]),
+           (65, [48, 17, 0, 0], 7))
+
+    moves, slots, forecast = insert_all(2, range(65, 0, -1))
+    t.same('sum 2', (moves, counts(slots), forecast),
+           (65, [17, 48, 0, 0], as_forecast([[0, 0, 7]])))
+
+    for key in range(1, 8):
+        number, moves, sparse, slots, _ = delete(list_with(7, 30), empty, key)
+        t.same('sum 3, key %d' % key, (number, moves, counts(slots)),
+               (0, 36, [18, 18]))
+        number, moves, sparse, slots, _ = delete(list_with(7, 19), empty, key)
+        t.same('sum 4, key %d' % key, (number, moves, sparse, counts(slots)),
+               (0, 7 - key, True, [6, 19]))
+        number, moves, sparse, slots, _ = delete(list_with(7, 20), empty, key)
+        t.same('sum 5, key %d' % key, (number, moves, sparse, counts(slots)),
+               (0, 26, False, [13, 13]))
+
+    weights = [1 if n in (10, 30) else 0 for n in range(1, 38)]
+    t.same('sum 6', left_share(1, 1, weights, 0), 18)
+    t.same('sum 6, tie', abs(Fraction(1, 64 - 18) - Fraction(1, 64 - 37 + 18)),
+           abs(Fraction(1, 64 - 19) - Fraction(1, 64 - 37 + 19)))
+    t.same('sum 7', left_share(1, 1, [0] * 37, 0), 19)
+
+    full = list_with(64, 0)
+    t.same('sum 8, new', insert(full, empty, 65), (8, 0, full, empty))
+    t.same('sum 8, present', insert(full, empty, 5), (6, 0, full, empty))
+
+    one = as_forecast([[7, 0, 3]])
+    number, _, _, _, forecast = delete(list_with(10, 20), one, 7)
+    t.same('sum 9', (number, forecast), (0, empty))
+
+    for n in (0, 64, 192, 8192):
+        wrong = [0] * n
+        t.same('sum 10, make %d' % n, make(wrong), (1, wrong, empty))
+        t.same('sum 10, check %d' % n, check(wrong, empty), 1)
+        t.same('sum 10, lookup %d' % n, lookup(wrong, 1), (1, False, 0))
+        t.same('sum 10, insert %d' % n, insert(wrong, empty, 1),
+               (1, 0, wrong, empty))
+        t.same('sum 10, delete %d' % n, delete(wrong, empty, 1),
+               (1, 0, False, wrong, empty))
+        t.same('sum 10, scan %d' % n, scan(wrong, 0, [9]), (1, 0, False, [9]))
+        t.same('sum 10, run %d' % n,
+               run(wrong, empty, record(1, 1), 100, [1, 2, 3, 4]),
+               (0, 0, 0, 1, 0, wrong, empty, [1, 2, 3, 4]))
+
+    some = list_with(5, 3)
+    for a, more in ((0, True), (7, True), (8, False), (2 ** 64 - 1, False)):
+        t.same('sum 11, above %d' % a, scan(some, a, []), (0, 0, more, []))
+
+    t.same('listrun sample',
+           listrun_text(b''.join(record(1, k) for k in range(1, 66))),
+           'keys 65 moved 129 swept 1 stop 0\n0 48\n1 17\n2 0\n3 0\n')
+    return t.close()
+
+
+# ---- The demands, tried on random requests -------------------------------
+
+def left_share_by_fractions(h, l, weights, front):
+    """The sharing rule again, one line, with exact fractions."""
+    m, C = len(weights), 32 * 2 ** l
+    if front + sum(weights) == 0:
+        return -(-m // 2)
+    lo, hi = 2 ** (l - 1) * low(h, l), 2 ** (l - 1) * high(h, l)
+    return min((i for i in range(m + 1) if lo <= i <= hi and lo <= m - i <= hi),
+               key=lambda i: (abs(Fraction(front + sum(weights[:i]), C - i)
+                                  - Fraction(sum(weights[i:]), C - m + i)), i))
+
+
+def random_request(rng, h, keys, mood):
+    """A kind and key, by a mood that lasts a while."""
+    top = 2 ** 64 - 1
+    name, base = mood
+    if name == 'empty out' and keys:
+        near = [k for k in keys if k >= base] or keys
+        return 2, rng.choice(near[:40])
+    if name == 'thin' and keys:
+        return 2, rng.choice(keys)
+    if name == 'rising':
+        higher = [k for k in keys if k >= base]
+        return 1, min(top, (max(higher) if higher else base) + rng.randint(1, 3))
+    if name == 'falling':
+        return 1, max(1, (min(keys) if keys else base) - rng.randint(1, 3))
+    if name == 'behind one':
+        return 1, min(top, base + rng.randint(1, 10 ** 6))
+    if name == 'before one':
+        lower = [k for k in keys if k > base]
+        return 1, max(0, (min(lower) if lower else base + 10 ** 9) - 1)
+    if name == 'odd':
+        return (rng.choice((1, 2)),
+                rng.choice([0, 1, top] + rng.sample(keys, min(3, len(keys)))))
+    return 1, rng.randint(1, top)
+
+
+MOODS = ('empty out', 'thin', 'rising', 'falling', 'behind one', 'before one',
+         'odd', 'anywhere')
+
+
+def random_test(n, seed):
+    import random
+    rng = random.Random(seed)
+    t = Tally()
+    for h in range(1, 7):
+        _, slots, forecast = make([0] * (SEGMENT * 2 ** h))
+        totals = [rng.randrange(2 ** 32) for _ in range(4)]
+        plain = set()
+        since = {}      # swept windows: (level, start) -> [net left, net right]
+        left = 0
+        for _ in range(n):
+            keys = sorted(plain)
+            if left == 0:
+                left = rng.randint(1, 40 * 2 ** h)
+                base = rng.choice(keys) if keys else 2 ** 63
+                mood = (rng.choice(MOODS), base)
+            left -= 1
+            kind, key = random_request(rng, h, keys, mood)
+            lent = (list(slots), copy_forecast(forecast))
+
+            # The expected number, from the plain sorted set (demand 2).
+            wanted = 0
+            if key == 0:
+                wanted = 5
+            elif kind == 1 and key in plain:
+                wanted = 6
+            elif kind == 2 and key not in plain:
+                wanted = 7
+            elif kind == 1 and len(plain) == most_keys(h):
+                wanted = 8
+            work = work_insert if kind == 1 else work_delete
+            number, moves, sparse, window, after, fc = work(slots, forecast, key)
+            t.same('number', number, wanted)
+            t.same('lent things stay', (slots, forecast), lent)
+            if kind == 1:
+                t.same('insert', insert(slots, forecast, key),
+                       (number, moves, after, fc))
+            else:
+                t.same('delete', delete(slots, forecast, key),
+                       (number, moves, sparse, after, fc))
+            if number != 0:
+                t.same('refused', (moves, sparse, window, after, fc),
+                       (0, False, None) + lent)
+            else:
+                (plain.add if kind == 1 else plain.remove)(key)
+
+            # A run of the one record gives the same; one move less stops it.
+            got = run(slots, forecast, record(kind, key), moves, totals)
+            more = [1, int(number != 0), moves, int(window is not None)]
+            sums = [(a + b) % 2 ** 32 for a, b in zip(totals, more)]
+            t.same('run', got, (1, more[1], moves, 0, 11, after, fc, sums))
+            if moves > 0:
+                got = run(slots, forecast, record(kind, key), moves - 1, totals)
+                t.same('run stopped', got,
+                       (0, 0, 0, 10, 0, slots, forecast, totals))
+            totals = sums
+
+            # Which segment the request falls in.
+            x = max([k for k in keys if k < key], default=0)
+            if number == 0 and kind == 2:
+                x = key
+            at = 0 if x == 0 else segment_of(slots, x)
+
+            # Demand 3, second part, for every swept window round the segment.
+            if number == 0:
+                net = 1 if kind == 1 else -1
+                for l in range(1, h + 1):
+                    at_window = (l, window_start(at, l))
+                    side = (at >> (l - 1)) & 1
+                    if at_window in since:
+                        since[at_window][side] += net
+                        if window is not None and l <= window[0]:
+                            gap_high = high(h, l - 1) - high(h, l)
+                            gap_low = low(h, l) - low(h, l - 1)
+                            taken = since[at_window][side]
+                            t.same('demand 3, taken',
+                                   taken > gap_high * 2 ** (l - 1)
+                                   or -taken > gap_low * 2 ** (l - 1), True)
+            if window is not None:
+                level, start = window
+                for l in range(1, level + 1):
+                    for s in range(start, start + 2 ** level, 2 ** l):
+                        since[(l, s)] = [0, 0]
+                # Demand 3, first part.
+                sizes = counts(after)
+                for l in range(0, level):
+                    for s in range(start, start + 2 ** level, 2 ** l):
+                        held = sum(sizes[s:s + 2 ** l])
+                        t.same('demand 3, held',
+                               2 ** l * low(h, l + 1) <= held
+                               <= 2 ** l * high(h, l + 1), True)
+                t.same('sweep moves', moves,
+                       sum(sizes[start:start + 2 ** level]))
+
+                # The split of the chosen window, by fractions.
+                if rng.random() < 0.02 or h < 3:
+                    inside = sum(to_segments(after)[start:start + 2 ** level],
+                                 [])
+                    ws = weights_of(fc)
+                    front = ws.get(0, 0) if start == 0 else 0
+                    t.same('split', sum(sizes[start:start + 2 ** (level - 1)]),
+                           left_share_by_fractions(
+                               h, level, [ws.get(k, 0) for k in inside], front))
+
+            slots, forecast = after, fc
+            keys = sorted(plain)
+            t.same('keys', live_keys(slots), keys)
+            t.same('check', check(slots, forecast), 0)
+            if kind == 2 and number == 0:
+                t.same('sparse', sparse, len(plain) < 13 * 2 ** h)
+            t.same('lookup', lookup(slots, key)[:2],
+                   (5, False) if key == 0 else (0, key in plain))
+            room = rng.choice((0, 1, 5, 5000))
+            a = rng.choice((0, key, rng.randrange(2 ** 64)))
+            above = [k for k in keys if k > a]
+            out = [77] * room
+            t.same('scan', scan(slots, a, out),
+                   (0, min(room, len(above)), len(above) > room,
+                    above[:room] + [77] * (room - len(above))))
+        print('height %d: %d keys at the end' % (h, len(plain)))
+    return t.close()
+
+
+def main(args):
+    if args == ['--selftest']:
+        return selftest()
+    if args == ['--listrun']:
+        listrun()
+        return 0
+    if args[:1] == ['--random'] and len(args) <= 3:
+        n = int(args[1]) if len(args) > 1 else 500
+        seed = int(args[2]) if len(args) > 2 else 1
+        return random_test(n, seed)
+    sys.stderr.write(__doc__)
+    return 2
+
+
+if __name__ == '__main__':
+    sys.exit(main(sys.argv[1:]))

@@ -1,0 +1,218 @@
+"""Makes the commands of the program `trials`, and what it must write, by the model of document 01 beside this file.
+
+    python3 tests/trials.py            writes crates/trials/stdin and crates/trials/stdout
+    python3 tests/trials.py --check    compares them with what the model says
+"""
+import os
+import random
+import struct
+import sys
+
+import model
+
+HERE = os.path.dirname(os.path.abspath(__file__))
+FOLDER = os.path.join(HERE, "..", "crates", "trials")
+MOST = 65536 // 25
+
+MAKE, INSERT, DELETE, LOOKUP, SCAN, CHECK, POKE, CELL, USED, SHOW = range(1, 11)
+
+
+def command(ask, x=0, y=0, z=0):
+    return struct.pack(">BQQQ", ask, x, y, z)
+
+
+def cell(place, marker, segment, count):
+    return command(CELL, place, marker, segment * 2 ** 32 + count)
+
+
+def shown():
+    return [command(SHOW)]
+
+
+def up(n, step=10, start=10):
+    return [command(INSERT, start + step * i) for i in range(n)]
+
+
+def down(n, step=10, start=10):
+    return [command(INSERT, start + step * i) for i in reversed(range(n))]
+
+
+def hammer(n, base):
+    """Each key goes just behind the first one of the series."""
+    return [command(INSERT, base + n - i) for i in range(n)]
+
+
+def sequences():
+    """Inserts and deletes at each height, in several orders."""
+    out = []
+    for h in range(1, 7):
+        out += [command(MAKE, 64 << h)] + up(70) + shown()
+        out += [command(DELETE, 10 + 10 * i) for i in range(0, 60)] + shown()
+    out += [command(MAKE, 256)] + down(70) + hammer(40, 100000) + shown()
+    out += [command(MAKE, 512)] + up(100, 1000) + [command(INSERT, 50010 + i) for i in range(30)] + shown()
+    return out
+
+
+def mixed(rng, h, n):
+    """Random requests, biased to a few places, with lookups and scans between."""
+    out = [command(MAKE, 64 << h)]
+    keys = []
+    for i in range(n):
+        kind = rng.random()
+        if kind < 0.62 or not keys:
+            key = rng.choice(keys) + rng.randint(0, 3) if keys and rng.random() < 0.5 else rng.randint(1, 2 ** 64 - 1)
+            out.append(command(INSERT, key))
+            if key not in keys:
+                keys.append(key)
+        elif kind < 0.82:
+            key = rng.choice(keys) if rng.random() < 0.9 else rng.randint(0, 2 ** 64 - 1)
+            out.append(command(DELETE, key))
+            if key in keys:
+                keys.remove(key)
+        elif kind < 0.91:
+            out.append(command(LOOKUP, rng.choice(keys) if rng.random() < 0.6 else rng.randint(0, 2 ** 64 - 1)))
+        else:
+            out.append(command(SCAN, rng.choice([0] + keys), rng.randint(0, 20)))
+    return out + shown() + [command(CHECK)]
+
+
+def refusals():
+    """Each number, first to last, and damaged arrays and forecasts."""
+    out = []
+    every = [command(CHECK), command(INSERT, 5), command(DELETE, 5), command(LOOKUP, 5), command(SCAN, 0, 5)]
+    for length in (0, 64, 192, 8192):
+        out += [command(MAKE, length)] + every
+    out += [command(MAKE, 128)] + [command(ask, 0) for ask in (INSERT, DELETE, LOOKUP)]
+    out += [command(DELETE, 9)] + up(64, 10) + [command(INSERT, 10), command(INSERT, 11), command(SCAN, 0, 0), command(SCAN, 640, 0)] + shown()
+    # a key after a gap; an equal key; a smaller one; a smaller one in the next segment
+    for slot, key in ((100, 5000), (30, 300), (30, 5), (64, 200)):
+        out += [command(MAKE, 128)] + up(31, 10) + [command(POKE, slot, key)] + every + shown()
+    out += [command(MAKE, 128)] + up(20, 10) + [command(POKE, 64, 5000), command(POKE, 66, 5001)] + every
+    # over half as many keys as slots
+    out += [command(MAKE, 128)] + [command(POKE, i, 1 + i) for i in range(65)] + every
+    # forecasts: too many cells, counts, a marker twice, not live, wrong segment, an unused cell that is not zero
+    base = [command(MAKE, 128)] + up(5, 10)
+    good = [command(MAKE, 128), command(INSERT, 10), command(INSERT, 20)]
+    for damage in (
+        [command(USED, 8)], [command(USED, 2 ** 64 - 1)], [cell(0, 40, 0, 0)], [cell(0, 40, 0, 8)], [cell(1, 40, 0, 1)], [cell(0, 45, 0, 1)],
+        [cell(0, 40, 1, 1)], [cell(0, 0, 1, 1)], [cell(7, 1, 0, 0)], [cell(11, 0, 0, 1)], [command(USED, 1)], [cell(11, 0, 7, 0)],
+    ):
+        out += base + damage + every + shown()
+    return out + good + shown()
+
+
+def commands():
+    rng = random.Random(20)
+    out = sequences() + refusals()
+    while len(out) + 130 < MOST:
+        out += mixed(rng, rng.randint(1, 6), 100)
+    return out
+
+
+def digest(numbers):
+    total = 0
+    for number in numbers:
+        total = (total * 31 + number % 1000003) % 1000003
+    return total
+
+
+class Player:
+    """What the program does with each command, by the model."""
+
+    def __init__(self):
+        self.array = [0] * 8192
+        self.length = 0
+        self.forecast = (0, [[0, 0, 0] for _ in range(12)])
+        self.lines = []
+
+    def say(self, word, *numbers):
+        self.lines.append(" ".join([word] + [str(int(n)) for n in numbers]))
+
+    def slots(self):
+        return self.array[:self.length]
+
+    def keep(self, slots, forecast):
+        self.array[:self.length] = slots
+        self.forecast = forecast
+
+    def play(self, data):
+        ask, x, y, z = struct.unpack(">BQQQ", data)
+        if ask == MAKE:
+            if x <= 8192:
+                self.length = x
+                number, slots, forecast = model.make(self.slots())
+                self.keep(slots, forecast)
+                self.say("make", number, 0, 0)
+        elif ask == INSERT:
+            number, moves, slots, forecast = model.insert(self.slots(), self.forecast, x)
+            self.keep(slots, forecast)
+            self.say("insert", number, moves, 0)
+        elif ask == DELETE:
+            number, moves, sparse, slots, forecast = model.delete(self.slots(), self.forecast, x)
+            self.keep(slots, forecast)
+            self.say("delete", number, moves, sparse)
+        elif ask == LOOKUP:
+            number, present, segment = model.lookup(self.slots(), x)
+            self.say("lookup", number, present, segment)
+        elif ask == SCAN:
+            if y <= 64:
+                number, written, more, output = model.scan(self.slots(), x, [7] * y)
+                self.say("scan", number, written, more)
+                self.say("output", digest(list(output) + [7] * (64 - y)), 0, 0)
+        elif ask == CHECK:
+            self.say("check", model.check(self.slots(), self.forecast), 0, 0)
+        elif ask == POKE:
+            if x < 8192:
+                self.array[x] = y
+        elif ask == CELL:
+            if x < 12:
+                used, cells = self.forecast
+                cells = [list(c) for c in cells]
+                cells[x] = [y, z // 2 ** 32, z % 2 ** 32]
+                self.forecast = (used, cells)
+        elif ask == USED:
+            self.forecast = (x, self.forecast[1])
+        else:
+            self.show()
+
+    def show(self):
+        # keys by halving, as a segment of any content is counted
+        self.say("counts", *[halved(self.slots()[s:s + 64]) for s in range(0, self.length // 64 * 64, 64)])
+        self.say("cells", self.forecast[0], *[n for c in self.forecast[1] for n in c])
+        self.say("slots", digest(self.slots()), 0, 0)
+
+
+def halved(segment):
+    lo, hi = 0, len(segment)
+    while lo < hi:
+        mid = lo + (hi - lo) // 2
+        if segment[mid] == 0:
+            hi = mid
+        else:
+            lo = mid + 1
+    return lo
+
+
+def main(args):
+    asked = commands()
+    player = Player()
+    for data in asked:
+        player.play(data)
+    files = {"stdin": b"".join(asked), "stdout": ("\n".join(player.lines) + "\n").encode()}
+    wrong = 0
+    for name, content in files.items():
+        path = os.path.join(FOLDER, name)
+        if "--check" in args:
+            with open(path, "rb") as f:
+                same = f.read() == content
+            wrong += not same
+            print(name, "as the model says" if same else "DIFFERS")
+        else:
+            with open(path, "wb") as f:
+                f.write(content)
+    print(len(asked), "commands,", len(player.lines), "lines")
+    return wrong
+
+
+if __name__ == "__main__":
+    sys.exit(main(sys.argv[1:]))

@@ -1,0 +1,39 @@
+-- `ask_insert` is safe and ends.
+use mathlib.Core.Path.{sym}
+use lib.Seq.{length-take-le}
+use borrow.Author.Needs.{needs}
+use Rattle.trials.proofs.ask_insert.Statement.{statement}
+use Rattle.trials.proofs.ask_insert.Tie as tie
+
+returns : tie.Need-returns
+returns c = search needs
+
+slice-relend-prefix-insert : tie.Need-slice-relend-prefix-insert
+slice-relend-prefix-insert c = search needs
+
+slice-aggregate-insert : tie.Need-slice-aggregate-insert
+slice-aggregate-insert c = sym (length-take-le _ _ (search needs))
+
+insert-requires : tie.Need-insert-requires
+insert-requires c κs = search needs
+
+tell-insert-requires : tie.Need-tell-insert-requires
+tell-insert-requires c κs = search needs
+
+same-length : tie.Need-same-length
+same-length c = search needs
+
+returns-2 : tie.Need-returns-2
+returns-2 c = search needs
+
+pub ask-insert-spec : {M : Type 1} → statement M
+ask-insert-spec =
+    tie.close
+    (tie.spec
+    returns
+    slice-relend-prefix-insert
+    slice-aggregate-insert
+    insert-requires
+    tell-insert-requires
+    same-length
+    returns-2)

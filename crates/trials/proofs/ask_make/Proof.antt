@@ -1,0 +1,39 @@
+-- `ask_make` is safe and ends.
+use mathlib.Core.Path.{sym}
+use lib.Seq.{length-take-le}
+use borrow.Author.Needs.{needs}
+use Rattle.trials.proofs.ask_make.Statement.{statement}
+use Rattle.trials.proofs.ask_make.Tie as tie
+
+returns : tie.Need-returns
+returns c = search needs
+
+slice-relend-prefix-make : tie.Need-slice-relend-prefix-make
+slice-relend-prefix-make c = search needs
+
+slice-aggregate-make : tie.Need-slice-aggregate-make
+slice-aggregate-make c = sym (length-take-le _ _ (search needs))
+
+make-requires : tie.Need-make-requires
+make-requires c κs = search needs
+
+tell-make-requires : tie.Need-tell-make-requires
+tell-make-requires c κs = search needs
+
+same-length : tie.Need-same-length
+same-length c = search needs
+
+returns-2 : tie.Need-returns-2
+returns-2 c = search needs
+
+pub ask-make-spec : {M : Type 1} → statement M
+ask-make-spec =
+    tie.close
+    (tie.spec
+    returns
+    slice-relend-prefix-make
+    slice-aggregate-make
+    make-requires
+    tell-make-requires
+    same-length
+    returns-2)

@@ -1,0 +1,349 @@
+// Works the commands of its standard input on one array and one forecast, through the public calls, and writes what each call answers.
+// A command is 25 bytes: what is asked, and three numbers, high byte first.
+ghost use Prim.Native.Nat.{_≤_, _<_, _+_};
+ghost use lib.ListN.{length};
+use forecast::Cell;
+use forecast::Forecast;
+use libc::STDOUT_FILENO;
+use list::CheckAnswer;
+use list::DeleteAnswer;
+use list::InsertAnswer;
+use list::LookupAnswer;
+use list::MakeAnswer;
+use list::ScanAnswer;
+
+struct Command {
+    ask: u8,
+    x: u64,
+    y: u64,
+    z: u64,
+}
+
+// The number of slots in use, and the forecast.
+struct Room {
+    len: usize,
+    forecast: Forecast,
+}
+
+fn text(s: &[u8]) {
+    io::write_all(STDOUT_FILENO, s);
+}
+
+fn number(n: u64) {
+    text(b" ");
+    io::print_decimal(STDOUT_FILENO, n);
+}
+
+// A line of the word for a call and three numbers.
+fn line(word: &[u8], a: u64, b: u64, c: u64) {
+    text(word);
+    number(a);
+    number(b);
+    number(c);
+    text(b"\n");
+}
+
+fn tell_make(answer: MakeAnswer) {
+    match answer {
+        MakeAnswer::WrongLength => line(b"make", 1, 0, 0),
+        MakeAnswer::Made => line(b"make", 0, 0, 0),
+    }
+}
+
+fn tell_check(answer: CheckAnswer) {
+    match answer {
+        CheckAnswer::WrongLength => line(b"check", 1, 0, 0),
+        CheckAnswer::WrongOrder => line(b"check", 2, 0, 0),
+        CheckAnswer::TooManyKeys => line(b"check", 3, 0, 0),
+        CheckAnswer::WrongForecast => line(b"check", 4, 0, 0),
+        CheckAnswer::Passed => line(b"check", 0, 0, 0),
+    }
+}
+
+fn tell_lookup(answer: LookupAnswer) {
+    match answer {
+        LookupAnswer::WrongLength => line(b"lookup", 1, 0, 0),
+        LookupAnswer::WrongOrder => line(b"lookup", 2, 0, 0),
+        LookupAnswer::TooManyKeys => line(b"lookup", 3, 0, 0),
+        LookupAnswer::KeyZero => line(b"lookup", 5, 0, 0),
+        LookupAnswer::Present(s) => line(b"lookup", 0, 1, s as u64),
+        LookupAnswer::Absent => line(b"lookup", 0, 0, 0),
+    }
+}
+
+fn tell_scan(answer: ScanAnswer) {
+    match answer {
+        ScanAnswer::WrongLength => line(b"scan", 1, 0, 0),
+        ScanAnswer::WrongOrder => line(b"scan", 2, 0, 0),
+        ScanAnswer::TooManyKeys => line(b"scan", 3, 0, 0),
+        ScanAnswer::Ended(n) => line(b"scan", 0, n as u64, 0),
+        ScanAnswer::More(n) => line(b"scan", 0, n as u64, 1),
+    }
+}
+
+fn tell_insert(answer: InsertAnswer) {
+    match answer {
+        InsertAnswer::WrongLength => line(b"insert", 1, 0, 0),
+        InsertAnswer::WrongOrder => line(b"insert", 2, 0, 0),
+        InsertAnswer::TooManyKeys => line(b"insert", 3, 0, 0),
+        InsertAnswer::WrongForecast => line(b"insert", 4, 0, 0),
+        InsertAnswer::KeyZero => line(b"insert", 5, 0, 0),
+        InsertAnswer::KeyPresent => line(b"insert", 6, 0, 0),
+        InsertAnswer::Full => line(b"insert", 8, 0, 0),
+        InsertAnswer::Inserted(n) => line(b"insert", 0, n, 0),
+    }
+}
+
+fn tell_delete(answer: DeleteAnswer) {
+    match answer {
+        DeleteAnswer::WrongLength => line(b"delete", 1, 0, 0),
+        DeleteAnswer::WrongOrder => line(b"delete", 2, 0, 0),
+        DeleteAnswer::TooManyKeys => line(b"delete", 3, 0, 0),
+        DeleteAnswer::WrongForecast => line(b"delete", 4, 0, 0),
+        DeleteAnswer::KeyZero => line(b"delete", 5, 0, 0),
+        DeleteAnswer::KeyAbsent => line(b"delete", 7, 0, 0),
+        DeleteAnswer::Deleted(n) => line(b"delete", 0, n, 0),
+        DeleteAnswer::DeletedSparse(n) => line(b"delete", 0, n, 1),
+    }
+}
+
+// What the slots hold, as one number.
+fn sum_of(slots: &[u64]) -> u64 {
+    let mut sum: u64 = 0;
+    let mut i = 0;
+    while i < slots.len() {
+        sum = (sum * 31 + slots[i] % 1000003) % 1000003;
+        i += 1;
+    }
+    sum
+}
+
+// The keys of each segment.
+fn show_counts(slots: &[u64]) {
+    text(b"counts");
+    let n = slots.len() / 64;
+    let mut s = 0;
+    while s < n {
+        let a = 64 * s;
+        let e = a + 64;
+        number(slots::counting::count_keys(&slots[a..e]) as u64);
+        s += 1;
+    }
+    text(b"\n");
+}
+
+// The cells in use.
+fn show_cells(forecast: Forecast) {
+    text(b"cells");
+    number(forecast.used as u64);
+    let mut i = 0;
+    while i < 12 {
+        let cell = forecast.cells[i];
+        number(cell.marker);
+        number(cell.segment as u64);
+        number(cell.count as u64);
+        i += 1;
+    }
+    text(b"\n");
+}
+
+// A byte as a number of 64 bits.
+fn wide(x: u8) -> u64
+    ensures { λ r. ⌜ r < 256 ⌝ }
+{
+    x as u64
+}
+
+// Eight bytes as a number, high byte first.
+fn number_at(input: &[u8], a: usize) -> u64
+    requires { ⌜ a + 8 ≤ length (now input) ⌝ }
+{
+    let mut n: u64 = 0;
+    let mut i = 0;
+    while i < 8 {
+        n = n % 72057594037927936 * 256 + wide(input[a + i]);
+        i += 1;
+    }
+    n
+}
+
+fn command_at(input: &[u8], a: usize) -> Command
+    requires { ⌜ a + 25 ≤ length (now input) ⌝ }
+{
+    Command {
+        ask: input[a],
+        x: number_at(input, a + 1),
+        y: number_at(input, a + 9),
+        z: number_at(input, a + 17),
+    }
+}
+
+// 1: an empty list of x slots.
+fn ask_make(slots: &mut [u64], room: Room, c: Command) -> Room {
+    let len = c.x as usize;
+    if slots.len() < len {
+        return room;
+    }
+    let reply = list::calls::make(&mut slots[..len]);
+    let answer = reply.answer;
+    tell_make(answer);
+    let forecast = reply.forecast;
+    Room { len, forecast }
+}
+
+// 2: insert of x.
+fn ask_insert(slots: &mut [u64], room: Room, c: Command) -> Room {
+    let len = room.len;
+    if slots.len() < len {
+        return room;
+    }
+    let reply = list::changing::insert(&mut slots[..len], room.forecast, c.x);
+    let answer = reply.answer;
+    tell_insert(answer);
+    let forecast = reply.forecast;
+    Room { len, forecast }
+}
+
+// 3: delete of x.
+fn ask_delete(slots: &mut [u64], room: Room, c: Command) -> Room {
+    let len = room.len;
+    if slots.len() < len {
+        return room;
+    }
+    let reply = list::changing::delete(&mut slots[..len], room.forecast, c.x);
+    let answer = reply.answer;
+    tell_delete(answer);
+    let forecast = reply.forecast;
+    Room { len, forecast }
+}
+
+// 4: lookup of x.
+fn ask_lookup(slots: &[u64], room: Room, c: Command) {
+    let len = room.len;
+    if slots.len() < len {
+        return;
+    }
+    tell_lookup(list::calls::lookup(&slots[..len], c.x));
+}
+
+// 5: scan from x into an output of y numbers, filled with 7 before.
+fn ask_scan(slots: &[u64], room: Room, c: Command) {
+    let mut output = [7u64; 64];
+    scan_into(slots, room.len, c, &mut output);
+}
+
+// The scan into the first y numbers of an output, and what the whole output holds then.
+fn scan_into(slots: &[u64], len: usize, c: Command, output: &mut [u64]) {
+    let n = c.y as usize;
+    if slots.len() < len {
+        return;
+    }
+    if output.len() < n {
+        return;
+    }
+    tell_scan(list::calls::scan(&slots[..len], c.x, &mut output[..n]));
+    line(b"output", sum_of(output), 0, 0);
+}
+
+// 6: check.
+fn ask_check(slots: &[u64], room: Room) {
+    let len = room.len;
+    if slots.len() < len {
+        return;
+    }
+    tell_check(list::calls::check(&slots[..len], room.forecast));
+}
+
+// 7: slot x becomes y.
+fn ask_poke(slots: &mut [u64], c: Command) {
+    let i = c.x as usize;
+    if i < slots.len() {
+        slots[i] = c.y;
+    }
+}
+
+// 8: cell x becomes marker y, and segment and count the halves of z.
+fn ask_cell(room: Room, c: Command) -> Room {
+    let i = c.x as usize;
+    let mut forecast = room.forecast;
+    if i < 12 {
+        let cell = Cell {
+            marker: c.y,
+            segment: (c.z / 4294967296) as usize,
+            count: (c.z % 4294967296) as usize,
+        };
+        forecast.cells[i] = cell;
+    }
+    Room {
+        len: room.len,
+        forecast,
+    }
+}
+
+// 9: x cells are used.
+fn ask_used(room: Room, c: Command) -> Room {
+    let mut forecast = room.forecast;
+    forecast.used = c.x as usize;
+    Room {
+        len: room.len,
+        forecast,
+    }
+}
+
+// 10: what the list holds now.
+fn ask_show(slots: &[u64], room: Room) {
+    let len = room.len;
+    if slots.len() < len {
+        return;
+    }
+    show_counts(&slots[..len]);
+    show_cells(room.forecast);
+    line(b"slots", sum_of(&slots[..len]), 0, 0);
+}
+
+fn work(slots: &mut [u64], room: Room, c: Command) -> Room {
+    let ask = c.ask;
+    match ask {
+        1 => ask_make(slots, room, c),
+        2 => ask_insert(slots, room, c),
+        3 => ask_delete(slots, room, c),
+        8 => ask_cell(room, c),
+        9 => ask_used(room, c),
+        _ => {
+            look(slots, room, c);
+            room
+        }
+    }
+}
+
+fn look(slots: &mut [u64], room: Room, c: Command) {
+    let ask = c.ask;
+    match ask {
+        4 => ask_lookup(slots, room, c),
+        5 => ask_scan(slots, room, c),
+        6 => ask_check(slots, room),
+        7 => ask_poke(slots, c),
+        _ => ask_show(slots, room),
+    }
+}
+
+fn play(input: &[u8], slots: &mut [u64]) {
+    let mut room = Room {
+        len: 0,
+        forecast: Forecast::empty(),
+    };
+    let n = input.len() / 25;
+    let mut i = 0;
+    while i < n {
+        let c = command_at(input, 25 * i);
+        room = work(slots, room, c);
+        i += 1;
+    }
+}
+
+fn main() {
+    let mut input = io::large_buffer();
+    let n = io::read_full(0, &mut input);
+    let mut slots = [0u64; 8192];
+    play(&input[..n], &mut slots);
+}

@@ -1,0 +1,61 @@
+// Makes a list of height 2, works at most 65,536 bytes of request records from standard input on it, and writes the keys now live, the
+// run's moves, the sweeps made and the stop number; then each segment's number and key count, a line each. Further input stays unread.
+use libc::STDOUT_FILENO;
+use rules::Totals;
+
+fn text(s: &[u8]) {
+    io::write_all(STDOUT_FILENO, s);
+}
+
+fn number(n: u64) {
+    io::print_decimal(STDOUT_FILENO, n);
+}
+
+fn counts(keys: u64, moved: u64, swept: u64, stop: u64) {
+    text(b"keys ");
+    number(keys);
+    text(b" moved ");
+    number(moved);
+    text(b" swept ");
+    number(swept);
+    text(b" stop ");
+    number(stop);
+    text(b"\n");
+}
+
+fn segment(at: u64, keys: usize) {
+    number(at);
+    text(b" ");
+    number(keys as u64);
+    text(b"\n");
+}
+
+fn main() {
+    let mut input = io::large_buffer();
+    let n = io::read_full(0, &mut input);
+    let mut slots = [0u64; 256];
+    let made = list::calls::make(&mut slots);
+    let totals = Totals {
+        worked: 0,
+        refused: 0,
+        moved: 0,
+        sweeps: 0,
+    };
+    let done = run::running::run_with(&mut slots, made.forecast, &input[..n], 1000000, totals);
+    let reply = done.reply;
+    let after = done.totals;
+    let a = slots::counting::count_keys(&slots[0..64]);
+    let b = slots::counting::count_keys(&slots[64..128]);
+    let c = slots::counting::count_keys(&slots[128..192]);
+    let d = slots::counting::count_keys(&slots[192..256]);
+    counts(
+        (a + b + c + d) as u64,
+        reply.moves,
+        after.sweeps as u64,
+        reply.stop as u64,
+    );
+    segment(0, a);
+    segment(1, b);
+    segment(2, c);
+    segment(3, d);
+}

@@ -1,0 +1,26 @@
+-- The key of a record from its eight bytes, four and four.
+use mathlib.Core.Path.{_≡_}
+use mathlib.Core.List.{List, [], _∷_}
+use Prim.Native.Nat.{ℕ, _+_, _*_, _≤_}
+use native.Mathlib.Omega.{arith}
+use lib.ListN.{length, getD}
+use Rattle.rules.specs.Runs.{keyOf}
+
+abbrev quad : ℕ → ℕ → ℕ → ℕ → ℕ
+quad a b c d = ((a * 256 + b) * 256 + c) * 256 + d
+
+-- the high four bytes, then the low four
+pub key-bytes : (bs : List ℕ) (h l : ℕ) → 11 ≤ length bs → h ≡ quad (getD bs 3 0) (getD bs 4 0) (getD bs 5 0) (getD bs 6 0)
+    → l ≡ quad (getD bs 7 0) (getD bs 8 0) (getD bs 9 0) (getD bs 10 0) → h * 4294967296 + l ≡ keyOf bs
+key-bytes (x ∷ y ∷ z ∷ a ∷ b ∷ c ∷ d ∷ e ∷ f ∷ g ∷ k ∷ bs) h l n p q = omega arith
+key-bytes [] h l n p q = absurd (omega arith)
+key-bytes (x ∷ []) h l n p q = absurd (omega arith)
+key-bytes (x ∷ y ∷ []) h l n p q = absurd (omega arith)
+key-bytes (x ∷ y ∷ z ∷ []) h l n p q = absurd (omega arith)
+key-bytes (x ∷ y ∷ z ∷ a ∷ []) h l n p q = absurd (omega arith)
+key-bytes (x ∷ y ∷ z ∷ a ∷ b ∷ []) h l n p q = absurd (omega arith)
+key-bytes (x ∷ y ∷ z ∷ a ∷ b ∷ c ∷ []) h l n p q = absurd (omega arith)
+key-bytes (x ∷ y ∷ z ∷ a ∷ b ∷ c ∷ d ∷ []) h l n p q = absurd (omega arith)
+key-bytes (x ∷ y ∷ z ∷ a ∷ b ∷ c ∷ d ∷ e ∷ []) h l n p q = absurd (omega arith)
+key-bytes (x ∷ y ∷ z ∷ a ∷ b ∷ c ∷ d ∷ e ∷ f ∷ []) h l n p q = absurd (omega arith)
+key-bytes (x ∷ y ∷ z ∷ a ∷ b ∷ c ∷ d ∷ e ∷ f ∷ g ∷ []) h l n p q = absurd (omega arith)

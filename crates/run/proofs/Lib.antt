@@ -1,0 +1,5 @@
+pub mod KeyBytes
+pub mod Readings
+pub mod Turns
+pub mod Going
+pub mod Admitted

@@ -1,0 +1,19 @@
+-- What a run promises: its reply and all that it leaves are those of the run's definition in `rules`.
+use Prim.Native.Nat.{ℕ}
+use mathlib.Core.Path.{_≡_}
+use mathlib.Core.List.{List}
+use Rattle.forecast.specs.declared.Forecast.{Forecast}
+use Rattle.rules.specs.declared.Totals.{Totals}
+use Rattle.rules.specs.Calls as rules
+use Rattle.run.specs.declared.Run.{Run}
+
+-- the slots, forecast, bytes, allowance and totals lent; what it returns; and the slots left
+pub record RunAdmits (slots : List ℕ) (F : Forecast) (bytes : List ℕ) (allowance : ℕ) (T : Totals) (r : Run) (left : List ℕ) : Type 0 where
+  pub worked : r .reply .worked ≡ rules.run slots F bytes allowance T .reply .worked
+  pub refused : r .reply .refused ≡ rules.run slots F bytes allowance T .reply .refused
+  pub moves : r .reply .moves ≡ rules.run slots F bytes allowance T .reply .moves
+  pub stop : r .reply .stop ≡ rules.run slots F bytes allowance T .reply .stop
+  pub place : r .reply .place ≡ rules.run slots F bytes allowance T .reply .place
+  pub forecast : r .forecast ≡ rules.run slots F bytes allowance T .forecast
+  pub totals : r .totals ≡ rules.run slots F bytes allowance T .totals
+  pub slots-left : left ≡ rules.run slots F bytes allowance T .slots

@@ -3,3 +3,4 @@ pub mod Readings
 pub mod Turns
 pub mod Going
 pub mod Admitted
+pub mod OneOutcome

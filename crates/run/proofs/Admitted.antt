@@ -17,7 +17,7 @@ use Rattle.run.specs.Admits.{RunAdmits}
 module _ (slots : List ℕ) (F : Forecast) (bytes : List ℕ) (allowance : ℕ) (T : Totals) where
   -- refused by its check
   pub run-stopped : (k : ℕ) → k ≡ check slots F → k ≢ 0
-      → RunAdmits slots F bytes allowance T (record { reply = record { worked = 0; refused = 0; moves = 0; stop = k; place = 0 }; forecast = F; totals = T }) slots
+      → RunAdmits slots F bytes allowance T (record { reply = record { worked = 0; refused = 0; moves = 0; stop = k; place = 0; forecast = F }; totals = T }) slots
   run-stopped k e z =
       let w : run slots F bytes allowance T ≡ stoppedAtOnce slots F T (check slots F) = run-refused slots F bytes allowance T (λ c. z (e ∙ c)) in
       record {
@@ -34,8 +34,7 @@ module _ (slots : List ℕ) (F : Forecast) (bytes : List ℕ) (allowance : ℕ) 
   -- or it works the records
   pub run-ended : check slots F ≡ 0 → (r : Ended) (left : List ℕ) (T′ : Totals) → Ends slots F bytes allowance r left → T′ ≡ counted T (r .tally)
       → RunAdmits slots F bytes allowance T (record {
-        reply = record { worked = r .tally .worked; refused = r .tally .refused; moves = r .tally .moves; stop = r .stop; place = r .tally .place };
-        forecast = r .forecast;
+        reply = record { worked = r .tally .worked; refused = r .tally .refused; moves = r .tally .moves; stop = r .stop; place = r .tally .place; forecast = r .forecast };
         totals = T′;
       }) left
   run-ended c r left T′ e t =

@@ -17,8 +17,8 @@ run-one slots F bytes allowance T r r′ left left′ a b = (
       moves = (a .moves ∙ sym (b .moves)) i;
       stop = (a .stop ∙ sym (b .stop)) i;
       place = (a .place ∙ sym (b .place)) i;
+      forecast = (a .forecast ∙ sym (b .forecast)) i;
     };
-    forecast = (a .forecast ∙ sym (b .forecast)) i;
     totals = (a .totals ∙ sym (b .totals)) i;
   },
   a .slots-left ∙ sym (b .slots-left),

@@ -14,6 +14,6 @@ pub record RunAdmits (slots : List ℕ) (F : Forecast) (bytes : List ℕ) (allow
   pub moves : r .reply .moves ≡ rules.run slots F bytes allowance T .reply .moves
   pub stop : r .reply .stop ≡ rules.run slots F bytes allowance T .reply .stop
   pub place : r .reply .place ≡ rules.run slots F bytes allowance T .reply .place
-  pub forecast : r .forecast ≡ rules.run slots F bytes allowance T .forecast
+  pub forecast : r .reply .forecast ≡ rules.run slots F bytes allowance T .forecast
   pub totals : r .totals ≡ rules.run slots F bytes allowance T .totals
   pub slots-left : left ≡ rules.run slots F bytes allowance T .slots

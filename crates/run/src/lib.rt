@@ -6,19 +6,20 @@ pub mod totals;
 use forecast::Forecast;
 use rules::Totals;
 
-// What a run tells: records worked (refused ones included), records refused, moves, the stop number and the byte place.
+// What a run tells: records worked (refused ones included), records refused, moves, the stop number and the byte place; and the forecast
+// that it hands back.
 pub struct Reply {
     pub worked: usize,
     pub refused: usize,
     pub moves: u64,
     pub stop: usize,
     pub place: usize,
+    pub forecast: Forecast,
 }
 
-// That, with the forecast and the totals then.
+// That, with the totals then.
 pub struct Run {
     pub reply: Reply,
-    pub forecast: Forecast,
     pub totals: Totals,
 }
 

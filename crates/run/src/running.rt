@@ -178,8 +178,8 @@ pub fn run_with(
                 moves: 0,
                 stop: number,
                 place: 0,
+                forecast,
             },
-            forecast,
             totals,
         };
     }
@@ -196,8 +196,23 @@ pub fn run_with(
             moves: tally.moves,
             stop,
             place: tally.place,
+            forecast: after,
         },
-        forecast: after,
         totals: totals::add_tally(totals, tally),
     }
+}
+
+// The run, adding to the totals that are lent.
+pub fn run(
+    list: &mut [u64],
+    forecast: Forecast,
+    requests: &[u8],
+    allowance: u64,
+    totals: &mut Totals,
+) -> Reply
+    ensures { λ r. ⌜ RunAdmits (now (list .entry)) forecast (now (requests .entry)) allowance (now (totals .entry)) (record { reply = r; totals = now (totals .exit) }) (now (list .exit)) ⌝ }
+{
+    let done = run_with(list, forecast, requests, allowance, *totals);
+    *totals = done.totals;
+    done.reply
 }

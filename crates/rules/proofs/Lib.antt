@@ -27,6 +27,7 @@ pub mod Works
 pub mod Runs
 pub mod RunTells
 pub mod Singly
+pub mod InTwo
 pub mod BadRecords
 pub mod Tells
 pub mod Rows

@@ -111,7 +111,7 @@ module _ (slots : List ℕ) (F : Forecast) (bytes : List ℕ) (allowance : ℕ) 
   hi : h ≤ 6
   hi = checked slots F c .1
 
-  good-ran : Good (shares h) (r .room)
+  pub good-ran : Good (shares h) (r .room)
   good-ran = rw (ran-works (shares h) allowance bytes R .room) (good-after h lo hi ds R (checked slots F c .2))
 
   keeps : check (worked T r .slots) (worked T r .forecast) ≡ 0

@@ -1,10 +1,10 @@
 -- Demand 1. Every call checks what it is lent. A refused request gives its number and zero moves and changes neither list, forecast nor
 -- output; a run that stops keeps exactly the requests worked before the stop.
-use Prim.Native.Nat.{ℕ, _+_, _*_, _≤_}
+use Prim.Native.Nat.{ℕ, _+_, _-_, _*_, _≤_}
 use mathlib.Core.Path.{_≡_}
 use mathlib.Core.Bool.{false}
 use mathlib.Core.Logic.{_≢_, _↔_}
-use mathlib.Core.List.{List, [], _∷_}
+use mathlib.Core.List.{List, [], _∷_, _++_}
 use lib.Dec.{ltb}
 use lib.ListN.{length, take}
 use Rattle.lists.specs.Lists.{All}
@@ -139,3 +139,24 @@ RequestKeeps = (q : Request) (slots : List ℕ) (F : Forecast) → check slots F
 abbrev pub RunKeeps : Type 0
 RunKeeps = (slots : List ℕ) (F : Forecast) (bytes : List ℕ) (allowance : ℕ) (T : Totals) → check slots F ≡ 0
     → check (run slots F bytes allowance T .slots) (run slots F bytes allowance T .forecast) ≡ 0
+
+-- A RUN IN TWO. Where the first bytes are worked to their end, a run over all the bytes is the run over the first, then the run over the
+-- rest from what that leaves, with the allowance that is left; the counts and places add up.
+abbrev pub joined : Worked → Worked → Worked
+joined W U = record {
+  slots = U .slots;
+  forecast = U .forecast;
+  totals = U .totals;
+  reply = record {
+    worked = W .reply .worked + U .reply .worked;
+    refused = W .reply .refused + U .reply .refused;
+    moves = W .reply .moves + U .reply .moves;
+    stop = U .reply .stop;
+    place = W .reply .place + U .reply .place;
+  };
+}
+
+abbrev pub RunInTwo : Type 0
+RunInTwo = (slots : List ℕ) (F : Forecast) (first rest : List ℕ) (allowance : ℕ) (T : Totals) → run slots F first allowance T .reply .stop ≡ 0
+    → let W : Worked = run slots F first allowance T in
+    run slots F (first ++ rest) allowance T ≡ joined W (run (W .slots) (W .forecast) rest (allowance - W .reply .moves) (W .totals))

@@ -1,0 +1,84 @@
+// Works the request streams of data/ through the run, each on a list of 256 slots made empty, and writes for each its name, the reply, the
+// four totals, and the number that the check gives of what it left.
+use forecast::Forecast;
+use libc::STDOUT_FILENO;
+use list::CheckAnswer;
+use rules::Totals;
+use run::Reply;
+
+fn text(s: &[u8]) {
+    io::write_all(STDOUT_FILENO, s);
+}
+
+fn told(name: &[u8], n: u64) {
+    text(name);
+    io::print_decimal(STDOUT_FILENO, n);
+}
+
+fn check_number(answer: CheckAnswer) -> u64 {
+    match answer {
+        CheckAnswer::Passed => 0,
+        CheckAnswer::WrongLength => 1,
+        CheckAnswer::WrongOrder => 2,
+        CheckAnswer::TooManyKeys => 3,
+        CheckAnswer::WrongForecast => 4,
+    }
+}
+
+fn tell(reply: Reply, totals: Totals, check: u64) {
+    told(b" worked ", reply.worked as u64);
+    told(b" refused ", reply.refused as u64);
+    told(b" moves ", reply.moves);
+    told(b" stop ", reply.stop as u64);
+    told(b" place ", reply.place as u64);
+    told(b" totals ", totals.worked as u64);
+    told(b" ", totals.refused as u64);
+    told(b" ", totals.moved as u64);
+    told(b" ", totals.sweeps as u64);
+    told(b" check ", check);
+    text(b"\n");
+}
+
+// Works one stream and hands the forecast back.
+fn stream(name: &[u8], list: &mut [u64], forecast: Forecast, allowance: u64) -> Forecast {
+    let mut input = io::large_buffer();
+    let fd = os::open_read(name);
+    let n = io::read_full(fd, &mut input);
+    let totals = Totals {
+        worked: 4294967295,
+        refused: 0,
+        moved: 0,
+        sweeps: 0,
+    };
+    let done = run::running::run_with(list, forecast, &input[..n], allowance, totals);
+    let reply = done.reply;
+    let left = reply.forecast;
+    let check = check_number(list::calls::check(list, left));
+    text(name);
+    tell(reply, done.totals, check);
+    left
+}
+
+// Works one stream on a list made empty.
+fn fresh(name: &[u8], allowance: u64) {
+    let mut slots = [0u64; 256];
+    let made = list::calls::make(&mut slots);
+    stream(name, &mut slots, made.forecast, allowance);
+}
+
+fn main() {
+    fresh(b"empty", 1000);
+    fresh(b"short", 1000);
+    fresh(b"mark", 1000);
+    fresh(b"kind", 1000);
+    fresh(b"refused", 1000000);
+    fresh(b"moving", 55);
+    fresh(b"moving", 54);
+    let mut slots = [0u64; 256];
+    let made = list::calls::make(&mut slots);
+    let left = stream(b"moving", &mut slots, made.forecast, 1000);
+    let again = stream(b"again", &mut slots, left, 1000);
+    stream(b"empty", &mut slots, again, 0);
+    let mut wrong = [0u64; 255];
+    stream(b"moving", &mut wrong, again, 1000);
+}

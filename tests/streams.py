@@ -1,0 +1,73 @@
+"""Makes the request streams of the program `streams`, and what it must write, by the model of document 01 beside this file.
+
+    python3 tests/streams.py            writes crates/streams/data and crates/streams/stdout
+    python3 tests/streams.py --check    compares them with what the model says
+"""
+import os
+import sys
+
+import model
+
+HERE = os.path.dirname(os.path.abspath(__file__))
+FOLDER = os.path.join(HERE, "..", "crates", "streams")
+
+
+def inserts(keys):
+    return b"".join(model.record(1, key) for key in keys)
+
+
+def deletes(keys):
+    return b"".join(model.record(2, key) for key in keys)
+
+
+STREAMS = {
+    "empty": b"",
+    "short": inserts([3, 1]) + model.record(1, 2)[:10],
+    "mark": inserts([3, 1]) + b"\xa5\x5b" + model.record(1, 2)[2:],
+    "kind": inserts([3, 1]) + model.record(3, 2),
+    "refused": inserts([0, 5, 5]) + deletes([9, 0]) + inserts(range(100, 227)) + inserts([7]) + deletes([5]) + inserts([7]),
+    "moving": inserts(range(100, 90, -1)),
+    "again": inserts(range(200, 270)) + deletes(range(91, 101)),
+}
+
+FRESH = [("empty", 1000), ("short", 1000), ("mark", 1000), ("kind", 1000), ("refused", 1000000), ("moving", 55), ("moving", 54)]
+ONE_LIST = [("moving", 1000), ("again", 1000), ("empty", 0)]
+
+
+def line(name, slots, forecast, allowance):
+    ran = model.run(slots, forecast, STREAMS[name], allowance, [2 ** 32 - 1, 0, 0, 0])
+    worked, refused, moves, stop, place, slots, forecast, totals = ran
+    told = "%s worked %d refused %d moves %d stop %d place %d totals %s check %d\n" % (
+        name, worked, refused, moves, stop, place, " ".join(map(str, totals)), model.check(slots, forecast))
+    return told, slots, forecast
+
+
+def output():
+    out = ""
+    for name, allowance in FRESH:
+        _, slots, forecast = model.make([0] * 256)
+        out += line(name, slots, forecast, allowance)[0]
+    _, slots, forecast = model.make([0] * 256)
+    for name, allowance in ONE_LIST:
+        told, slots, forecast = line(name, slots, forecast, allowance)
+        out += told
+    return out + line("moving", [0] * 255, forecast, 1000)[0]
+
+
+def files():
+    made = {os.path.join("data", name): stream for name, stream in STREAMS.items()}
+    made["stdout"] = output().encode()
+    return made
+
+
+def main():
+    for name, wanted in files().items():
+        path = os.path.join(FOLDER, name)
+        if "--check" not in sys.argv:
+            with open(path, "wb") as f:
+                f.write(wanted)
+        elif open(path, "rb").read() != wanted:
+            sys.exit(name + " differs")
+
+
+main()

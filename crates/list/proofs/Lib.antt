@@ -21,3 +21,4 @@ pub mod Above
 pub mod Papers
 pub mod OneOutcome
 pub mod Sums
+pub mod ToldOf

@@ -6,7 +6,7 @@ use mathlib.Core.List.{List}
 use Prim.Native.Nat.{ℕ, _≤_, _<_}
 use native.Mathlib.Omega.{arith}
 use lib.ListN.{length}
-use borrow.Author.Tests.{lt-ltb, le-ltb, ne-eqb}
+use borrow.Author.Tests.{lt-ltb, le-ltb, eq-eqb, ne-eqb}
 use Rattle.slots.specs.Segments.{Segments, keys, live, render}
 use Rattle.slots.specs.Keys.{segmentOf}
 use Rattle.forecast.specs.declared.Cell.{Cell}
@@ -17,9 +17,39 @@ use Rattle.rules.specs.declared.Request.{Request}
 use Rattle.rules.specs.Placing.{refusedBy, accept, outcome}
 use Rattle.rules.specs.Checks.{sharesOf}
 use Rattle.rules.specs.Calls.{roomOf}
+use Rattle.rules.proofs.Requests.{lent}
 use Rattle.list.specs.declared.Effect.the-variants.{Over, Done}
-use Rattle.list.specs.Stepped.{idle, effectOf, stepOf, Steps}
+use Rattle.list.specs.Stepped.{idle, effectOf, Stepped, stepOf, Steps}
 
+-- THE STEP by what the rules give for the request
+module _ (left : ℕ) (q : Request) (slots : List ℕ) (F : Forecast) where
+  pub over-step : left < lent q slots F .answer .moves → stepOf left q slots F ≡ record { step = idle Over F (length (live slots)); slots = slots }
+  unfolding stepOf
+  over-step h = rw (lt-ltb left (lent q slots F .answer .moves) h)
+
+  pub refused-step : lent q slots F .answer .moves ≤ left → lent q slots F .answer .number ≢ 0
+      → stepOf left q slots F ≡ record { step = idle (effectOf (lent q slots F .answer .number)) F (length (live slots)); slots = slots }
+  unfolding stepOf
+  refused-step h n = rw (le-ltb left (lent q slots F .answer .moves) h, ne-eqb (lent q slots F .answer .number) 0 n)
+
+  abbrev pub accepted : Stepped
+  accepted = record {
+    step = record {
+      effect = Done;
+      forecast = forecastOf (lent q slots F .room .cells);
+      moves = lent q slots F .answer .moves;
+      swept = lent q slots F .swept;
+      sparse = lent q slots F .answer .sparse;
+      keys = length (keys (lent q slots F .room .segments));
+    };
+    slots = render 0 (lent q slots F .room .segments);
+  }
+
+  pub accepted-step : lent q slots F .answer .moves ≤ left → lent q slots F .answer .number ≡ 0 → stepOf left q slots F ≡ accepted
+  unfolding stepOf
+  accepted-step h n = rw (le-ltb left (lent q slots F .answer .moves) h, eq-eqb (lent q slots F .answer .number) 0 n)
+
+-- AND THE OTHER WAY: what a step is, of an outcome that is known
 module _ (left : ℕ) (q : Request) (slots : List ℕ) (F : Forecast) where
   -- refused by number k: nothing changes
   pub step-refused : (n k : ℕ) → length (live slots) ≡ n → outcome (sharesOf slots) q (roomOf slots F) ≡ refusedBy k (roomOf slots F) → k ≢ 0 → Steps left q slots F (idle (effectOf k) F n) slots

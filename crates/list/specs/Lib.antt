@@ -5,3 +5,4 @@ pub mod Sweeps
 pub mod Stepped
 pub mod Changes
 pub mod Scans
+pub mod Telling

@@ -6,6 +6,7 @@ pub mod resowing;
 pub mod shifting;
 pub mod stepping;
 pub mod sweeping;
+pub mod telling;
 
 use forecast::Forecast;
 
@@ -102,4 +103,11 @@ pub struct Step {
     pub swept: bool,
     pub sparse: bool,
     pub keys: usize,
+}
+
+// What an answer tells in numbers: the paper's number, then its values in order (yes is 1, no is 0), and 0 where it has no more.
+pub struct Told {
+    pub number: u64,
+    pub first: u64,
+    pub second: u64,
 }

@@ -1,5 +1,4 @@
 // Steps that sweep a window: the smallest one round the segment that is within limits.
-ghost use mathlib.Core.Path.{_≡_};
 ghost use Prim.Native.Nat.{_+_, _*_, _≤_, _<_};
 ghost use Rattle.rules.specs.declared.Request.{Request};
 ghost use Rattle.list.specs.Stepped.{Inserting, Deleting, Steps};

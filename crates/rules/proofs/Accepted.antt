@@ -25,6 +25,20 @@ unfolding settled
 settled-number S s cs ss n b none = refl
 settled-number S s cs ss n b (some l) = refl
 
+pub insert-accepts : (S : Shares) (y : ℕ) (R : Room) → insertKey S y R .answer .number ≡ 0
+unfolding insertKey
+insert-accepts S y R = settled-number S _ _ _ _ _ _
+
+pub delete-accepts : (S : Shares) (y : ℕ) (R : Room) → deleteKey S y R .answer .number ≡ 0
+unfolding deleteKey
+delete-accepts S y R = settled-number S _ _ _ _ _ _
+
+-- and is sparse as was said
+pub settled-sparse : (S : Shares) (s : ℕ) (cs : List Cell) (ss : Segments) (n : ℕ) (b : Bool) (r : Option ℕ) → settled S s cs ss n b r .answer .sparse ≡ b
+unfolding settled
+settled-sparse S s cs ss n b none = refl
+settled-sparse S s cs ss n b (some l) = refl
+
 -- the tests of an insert and of a delete, by their results
 abbrev insertBy : Bool → Bool → Bool → Shares → ℕ → Room → Outcome
 insertBy a b c S y R = if a then refusedBy 5 R else if b then refusedBy 6 R else if c then refusedBy 8 R else insertKey S y R

@@ -1,21 +1,19 @@
 -- One request on a list that has passed its check, beside the plain set of its keys: the number, sparse, and the keys then.
 use mathlib.Core.Path.{_≡_, refl, ap, _∙_}
 use mathlib.Core.Bool.{Bool, true, false, not, _&&_}
-use mathlib.Core.Option.{Option, none, some}
 use mathlib.Core.List.{List, List·Memᴰ as Mem}
 use Prim.Native.Nat.{ℕ}
 use lib.Dec.{T, leb, ltb, eqb}
 use lib.ListN.{length}
 use Rattle.lists.specs.Choice.{if_then_else_}
-use Rattle.slots.specs.Segments.{Segments, keys}
+use Rattle.slots.specs.Segments.{keys}
 use Rattle.slots.specs.Keys.{Listed, member, segmentOf}
 use Rattle.slots.proofs.Keys.{member→mem, segment-mem, around, keys-cut}
-use Rattle.forecast.specs.declared.Cell.{Cell}
 use Rattle.rules.specs.declared.Request.the-variants.{Insert, Delete}
 use Rattle.rules.specs.Shares.{Shares, capacity, floor}
-use Rattle.rules.specs.Placing.{Room, refusedBy, cutFrom, settled, insertKey, deleteKey, outcome}
+use Rattle.rules.specs.Placing.{Room, refusedBy, cutFrom, insertKey, deleteKey, outcome}
 use Rattle.rules.specs.PlainSet as set
-use Rattle.rules.proofs.Accepted.{settled-number}
+use Rattle.rules.proofs.Accepted.{settled-number, settled-sparse}
 use Rattle.rules.proofs.SetLaws.{has-member, cut-remove}
 
 module _ (S : Shares) (y : ℕ) (R : Room) where
@@ -40,11 +38,6 @@ module _ (S : Shares) (y : ℕ) (R : Room) where
       go false true = settled-number S _ _ _ _ _ _
       go false false = refl
 
-  settled-sparse : (s : ℕ) (cs : List Cell) (ss : Segments) (n : ℕ) (b : Bool) (r : Option ℕ) → settled S s cs ss n b r .answer .sparse ≡ b
-  unfolding settled
-  settled-sparse s cs ss n b none = refl
-  settled-sparse s cs ss n b (some l) = refl
-
   keys-then : Listed (R .segments) → T (member y (keys (R .segments))) → keys (cutFrom y (R .segments)) ≡ set.remove y (keys (R .segments))
   keys-then g t =
       keys-cut y (R .segments) (segmentOf (R .segments) y)
@@ -64,4 +57,4 @@ module _ (S : Shares) (y : ℕ) (R : Room) where
           ≡ eqb (if a then 5 else if b then 0 else 7) 0 && ltb (length (set.remove y (keys (R .segments)))) (floor S)
       go true b e = refl
       go false false e = refl
-      go false true e = settled-sparse _ _ _ _ _ _ ∙ ap (λ (ks : List ℕ). ltb (length ks) (floor S)) (e tt)
+      go false true e = settled-sparse S _ _ _ _ _ _ ∙ ap (λ (ks : List ℕ). ltb (length ks) (floor S)) (e tt)

@@ -32,6 +32,12 @@ module _ {A : Type 0} (number : A → ℕ) where
   tells-more (r ∷ rs) rest n x y k (inl (w, q)) e more = inl (w, rw (ne-eqb n 0 (λ z. k .0 (sym q ∙ z))) (e ∙ q))
   tells-more (r ∷ rs) rest n x y k (inr (w, t)) e more = inr (w, tells-more rs rest n x y (k .1) t e more)
 
+-- a number that is n where n is not 0, and else tells further rows, tells them after those that n tells
+pub tells-after : (rs rest : List Row) (n m : ℕ) → Numbered rs → Tells rs n → (n ≢ 0 → m ≡ n) → (n ≡ 0 → Tells rest m) → Tells (rs ++ rest) m
+tells-after [] rest n m k t same more = more t
+tells-after (r ∷ rs) rest n m k (inl (w, q)) same more = inl (w, same (λ z. k .0 (sym q ∙ z)) ∙ q)
+tells-after (r ∷ rs) rest n m k (inr (w, t)) same more = inr (w, tells-after rs rest n m (k .1) t same more)
+
 -- the number is 0 exactly where none of the rows applies
 pub tells-none : (rs : List Row) (n : ℕ) → Numbered rs → Tells rs n → (n ≡ 0) ↔ NoneOf rs
 tells-none [] n k t = (λ e. tt, λ u. t)

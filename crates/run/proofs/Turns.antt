@@ -7,9 +7,8 @@ use Prim.Native.Nat.{ℕ, _≤_, _<_}
 use native.Mathlib.Omega.{arith}
 use lib.Dec.{T, ltb, leb, eqb, ltb→lt, nltb→le}
 use lib.ListN.{length}
-use borrow.Author.Tests.{lt-ltb, le-ltb, eq-eqb, ne-eqb}
 use Rattle.lists.proofs.Tests.{either, tested}
-use Rattle.slots.specs.Segments.{keys, live, heightOf, render}
+use Rattle.slots.specs.Segments.{keys, live, heightOf}
 use Rattle.slots.specs.Keys.{member}
 use Rattle.slots.proofs.Render.{live-render}
 use Rattle.forecast.specs.declared.Forecast.{Forecast}
@@ -18,15 +17,15 @@ use Rattle.forecast.proofs.Laws.{used-forecastOf}
 use Rattle.rules.specs.declared.Request.{Request}
 use Rattle.rules.specs.declared.Request.the-variants.{Insert, Delete, Bad}
 use Rattle.rules.specs.Shares.{Shares, capacity}
-use Rattle.rules.specs.Placing.{Room, Outcome, refusedBy, insertKey, deleteKey, outcome}
+use Rattle.rules.specs.Placing.{Room, Outcome, refusedBy, outcome}
 use Rattle.rules.specs.Checks.{sharesOf}
 use Rattle.rules.specs.Calls.{roomOf}
 use Rattle.rules.specs.Runs.{isBad, one}
-use Rattle.rules.proofs.Accepted.{refused-is, settled-number}
+use Rattle.rules.proofs.Accepted.{refused-is, insert-accepts, delete-accepts}
 use Rattle.rules.proofs.Checked.{checked, check-render, room-render, height-render}
 use Rattle.rules.proofs.Requests.{lent, good-lent, by-number}
-use Rattle.list.specs.declared.Effect.the-variants.{Over, Done}
-use Rattle.list.specs.Stepped.{Valid, idle, effectOf, Stepped, stepOf}
+use Rattle.list.specs.Stepped.{Valid, effectOf, Stepped, stepOf}
+use Rattle.list.proofs.StepCases as cases
 use Rattle.run.specs.Working.{isOver, isRefused}
 
 -- no test is both
@@ -42,23 +41,15 @@ not-over n =
 abbrev Counts : Outcome → Type 0
 Counts o = o .answer .number ≢ 0 → one (isRefused (effectOf (o .answer .number))) ≡ one (ltb 0 (o .answer .number))
 
-insert-number : (S : Shares) (y : ℕ) (R : Room) → insertKey S y R .answer .number ≡ 0
-unfolding insertKey
-insert-number S y R = settled-number S _ _ _ _ _ _
-
-delete-number : (S : Shares) (y : ℕ) (R : Room) → deleteKey S y R .answer .number ≡ 0
-unfolding deleteKey
-delete-number S y R = settled-number S _ _ _ _ _ _
-
 counts : (S : Shares) (q : Request) (R : Room) → T (not (isBad q)) → Counts (outcome S q R)
 unfolding outcome
 counts S (Insert y) R g =
     either Counts (eqb y 0) {x = refusedBy 5 R} (λ n. refl)
     (either Counts (member y (keys (R .segments))) {x = refusedBy 6 R} (λ n. refl)
-    (either Counts (leb (capacity S) (length (keys (R .segments)))) {x = refusedBy 8 R} (λ n. refl) (λ n. absurd (n (insert-number S y R)))))
+    (either Counts (leb (capacity S) (length (keys (R .segments)))) {x = refusedBy 8 R} (λ n. refl) (λ n. absurd (n (insert-accepts S y R)))))
 counts S (Delete y) R g =
     either Counts (eqb y 0) {x = refusedBy 5 R} (λ n. refl)
-    (either Counts (not (member y (keys (R .segments)))) {x = refusedBy 7 R} (λ n. refl) (λ n. absurd (n (delete-number S y R))))
+    (either Counts (not (member y (keys (R .segments)))) {x = refusedBy 7 R} (λ n. refl) (λ n. absurd (n (delete-accepts S y R))))
 counts S Bad R g = absurd g
 
 -- what a step that is not over gives
@@ -73,43 +64,17 @@ pub record Turn (left : ℕ) (q : Request) (slots : List ℕ) (F : Forecast) (h 
 
 -- THE STEP in its three cases
 module _ (left : ℕ) (q : Request) (slots : List ℕ) (F : Forecast) where
-  over-step : left < lent q slots F .answer .moves → stepOf left q slots F ≡ record { step = idle Over F (length (live slots)); slots = slots }
-  unfolding stepOf
-  over-step h = rw (lt-ltb left (lent q slots F .answer .moves) h)
-
-  refused-step : lent q slots F .answer .moves ≤ left → lent q slots F .answer .number ≢ 0
-      → stepOf left q slots F ≡ record { step = idle (effectOf (lent q slots F .answer .number)) F (length (live slots)); slots = slots }
-  unfolding stepOf
-  refused-step h n = rw (le-ltb left (lent q slots F .answer .moves) h, ne-eqb (lent q slots F .answer .number) 0 n)
-
-  abbrev accepted : Stepped
-  accepted = record {
-    step = record {
-      effect = Done;
-      forecast = forecastOf (lent q slots F .room .cells);
-      moves = lent q slots F .answer .moves;
-      swept = lent q slots F .swept;
-      sparse = lent q slots F .answer .sparse;
-      keys = length (keys (lent q slots F .room .segments));
-    };
-    slots = render 0 (lent q slots F .room .segments);
-  }
-
-  accepted-step : lent q slots F .answer .moves ≤ left → lent q slots F .answer .number ≡ 0 → stepOf left q slots F ≡ accepted
-  unfolding stepOf
-  accepted-step h n = rw (le-ltb left (lent q slots F .answer .moves) h, eq-eqb (lent q slots F .answer .number) 0 n)
-
   -- over says over, and nothing else does
   within-step : lent q slots F .answer .moves ≤ left → isOver (stepOf left q slots F .step .effect) ≡ false
   within-step h =
       by-number q slots F _
-      (λ n. ap (λ (d : Stepped). isOver (d .step .effect)) (accepted-step h n))
-      (λ n. ap (λ (d : Stepped). isOver (d .step .effect)) (refused-step h n) ∙ not-over (lent q slots F .answer .number))
+      (λ n. ap (λ (d : Stepped). isOver (d .step .effect)) (cases.accepted-step left q slots F h n))
+      (λ n. ap (λ (d : Stepped). isOver (d .step .effect)) (cases.refused-step left q slots F h n) ∙ not-over (lent q slots F .answer .number))
 
   pub over-turn : isOver (stepOf left q slots F .step .effect) ≡ true → (left < lent q slots F .answer .moves) × (stepOf left q slots F .slots ≡ slots)
   over-turn e =
       elim (tested (ltb left (lent q slots F .answer .moves))) [
-        | inl l ↦ (ltb→lt _ _ l, ap (λ (d : Stepped). d .slots) (over-step (ltb→lt _ _ l)))
+        | inl l ↦ (ltb→lt _ _ l, ap (λ (d : Stepped). d .slots) (cases.over-step left q slots F (ltb→lt _ _ l)))
         | inr l ↦ absurd (clash e (within-step (nltb→le _ _ l)))
       ]
 
@@ -117,7 +82,7 @@ module _ (left : ℕ) (q : Request) (slots : List ℕ) (F : Forecast) where
     refused-turn : lent q slots F .answer .moves ≤ left → lent q slots F .answer .number ≢ 0 → Turn left q slots F h (stepOf left q slots F)
     refused-turn k z =
         let e = refused-is (sharesOf slots) q (roomOf slots F) z in
-        subst (Turn left q slots F h) (sym (refused-step k z)) (record {
+        subst (Turn left q slots F h) (sym (cases.refused-step left q slots F k z)) (record {
           fits = k;
           moves = sym (ap (λ (o : Outcome). o .answer .moves) e);
           swept = sym (ap (λ (o : Outcome). o .swept) e);
@@ -133,7 +98,7 @@ module _ (left : ℕ) (q : Request) (slots : List ℕ) (F : Forecast) where
         let G = good-lent q slots F (v .passes) in
         let H = heightOf (length slots) in
         let R = lent q slots F .room in
-        subst (Turn left q slots F h) (sym (accepted-step k z)) (record {
+        subst (Turn left q slots F h) (sym (cases.accepted-step left q slots F k z)) (record {
           fits = k;
           moves = refl;
           swept = refl;
@@ -151,6 +116,6 @@ module _ (left : ℕ) (q : Request) (slots : List ℕ) (F : Forecast) where
     pub on-turn : isOver (stepOf left q slots F .step .effect) ≡ false → Turn left q slots F h (stepOf left q slots F)
     on-turn e =
         elim (tested (ltb left (lent q slots F .answer .moves))) [
-          | inl l ↦ absurd (clash (ap (λ (d : Stepped). isOver (d .step .effect)) (over-step (ltb→lt _ _ l))) e)
+          | inl l ↦ absurd (clash (ap (λ (d : Stepped). isOver (d .step .effect)) (cases.over-step left q slots F (ltb→lt _ _ l))) e)
           | inr l ↦ by-number q slots F _ (accepted-turn (nltb→le _ _ l)) (refused-turn (nltb→le _ _ l))
         ]

@@ -2,7 +2,6 @@
 // four totals, and the number that the check gives of what it left.
 use forecast::Forecast;
 use libc::STDOUT_FILENO;
-use list::CheckAnswer;
 use rules::Totals;
 use run::Reply;
 
@@ -13,16 +12,6 @@ fn text(s: &[u8]) {
 fn told(name: &[u8], n: u64) {
     text(name);
     io::print_decimal(STDOUT_FILENO, n);
-}
-
-fn check_number(answer: CheckAnswer) -> u64 {
-    match answer {
-        CheckAnswer::Passed => 0,
-        CheckAnswer::WrongLength => 1,
-        CheckAnswer::WrongOrder => 2,
-        CheckAnswer::TooManyKeys => 3,
-        CheckAnswer::WrongForecast => 4,
-    }
 }
 
 fn tell(reply: Reply, totals: Totals, check: u64) {
@@ -53,9 +42,10 @@ fn stream(name: &[u8], list: &mut [u64], forecast: Forecast, allowance: u64) -> 
     let done = run::running::run_with(list, forecast, &input[..n], allowance, totals);
     let reply = done.reply;
     let left = reply.forecast;
-    let check = check_number(list::calls::check(list, left));
+    let answer = list::calls::check(list, left);
+    let check = list::telling::tell_check(answer);
     text(name);
-    tell(reply, done.totals, check);
+    tell(reply, done.totals, check.number);
     left
 }
 

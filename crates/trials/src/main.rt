@@ -5,12 +5,7 @@ ghost use lib.ListN.{length};
 use forecast::Cell;
 use forecast::Forecast;
 use libc::STDOUT_FILENO;
-use list::CheckAnswer;
-use list::DeleteAnswer;
-use list::InsertAnswer;
-use list::LookupAnswer;
-use list::MakeAnswer;
-use list::ScanAnswer;
+use list::Told;
 
 struct Command {
     ask: u8,
@@ -43,68 +38,9 @@ fn line(word: &[u8], a: u64, b: u64, c: u64) {
     text(b"\n");
 }
 
-fn tell_make(answer: MakeAnswer) {
-    match answer {
-        MakeAnswer::WrongLength => line(b"make", 1, 0, 0),
-        MakeAnswer::Made => line(b"make", 0, 0, 0),
-    }
-}
-
-fn tell_check(answer: CheckAnswer) {
-    match answer {
-        CheckAnswer::WrongLength => line(b"check", 1, 0, 0),
-        CheckAnswer::WrongOrder => line(b"check", 2, 0, 0),
-        CheckAnswer::TooManyKeys => line(b"check", 3, 0, 0),
-        CheckAnswer::WrongForecast => line(b"check", 4, 0, 0),
-        CheckAnswer::Passed => line(b"check", 0, 0, 0),
-    }
-}
-
-fn tell_lookup(answer: LookupAnswer) {
-    match answer {
-        LookupAnswer::WrongLength => line(b"lookup", 1, 0, 0),
-        LookupAnswer::WrongOrder => line(b"lookup", 2, 0, 0),
-        LookupAnswer::TooManyKeys => line(b"lookup", 3, 0, 0),
-        LookupAnswer::KeyZero => line(b"lookup", 5, 0, 0),
-        LookupAnswer::Present(s) => line(b"lookup", 0, 1, s as u64),
-        LookupAnswer::Absent => line(b"lookup", 0, 0, 0),
-    }
-}
-
-fn tell_scan(answer: ScanAnswer) {
-    match answer {
-        ScanAnswer::WrongLength => line(b"scan", 1, 0, 0),
-        ScanAnswer::WrongOrder => line(b"scan", 2, 0, 0),
-        ScanAnswer::TooManyKeys => line(b"scan", 3, 0, 0),
-        ScanAnswer::Ended(n) => line(b"scan", 0, n as u64, 0),
-        ScanAnswer::More(n) => line(b"scan", 0, n as u64, 1),
-    }
-}
-
-fn tell_insert(answer: InsertAnswer) {
-    match answer {
-        InsertAnswer::WrongLength => line(b"insert", 1, 0, 0),
-        InsertAnswer::WrongOrder => line(b"insert", 2, 0, 0),
-        InsertAnswer::TooManyKeys => line(b"insert", 3, 0, 0),
-        InsertAnswer::WrongForecast => line(b"insert", 4, 0, 0),
-        InsertAnswer::KeyZero => line(b"insert", 5, 0, 0),
-        InsertAnswer::KeyPresent => line(b"insert", 6, 0, 0),
-        InsertAnswer::Full => line(b"insert", 8, 0, 0),
-        InsertAnswer::Inserted(n) => line(b"insert", 0, n, 0),
-    }
-}
-
-fn tell_delete(answer: DeleteAnswer) {
-    match answer {
-        DeleteAnswer::WrongLength => line(b"delete", 1, 0, 0),
-        DeleteAnswer::WrongOrder => line(b"delete", 2, 0, 0),
-        DeleteAnswer::TooManyKeys => line(b"delete", 3, 0, 0),
-        DeleteAnswer::WrongForecast => line(b"delete", 4, 0, 0),
-        DeleteAnswer::KeyZero => line(b"delete", 5, 0, 0),
-        DeleteAnswer::KeyAbsent => line(b"delete", 7, 0, 0),
-        DeleteAnswer::Deleted(n) => line(b"delete", 0, n, 0),
-        DeleteAnswer::DeletedSparse(n) => line(b"delete", 0, n, 1),
-    }
+// What a call answers.
+fn tell(word: &[u8], told: Told) {
+    line(word, told.number, told.first, told.second);
 }
 
 // What the slots hold, as one number.
@@ -186,7 +122,7 @@ fn ask_make(slots: &mut [u64], room: Room, c: Command) -> Room {
     }
     let reply = list::calls::make(&mut slots[..len]);
     let answer = reply.answer;
-    tell_make(answer);
+    tell(b"make", list::telling::tell_make(answer));
     let forecast = reply.forecast;
     Room { len, forecast }
 }
@@ -199,7 +135,7 @@ fn ask_insert(slots: &mut [u64], room: Room, c: Command) -> Room {
     }
     let reply = list::changing::insert(&mut slots[..len], room.forecast, c.x);
     let answer = reply.answer;
-    tell_insert(answer);
+    tell(b"insert", list::telling::tell_insert(answer));
     let forecast = reply.forecast;
     Room { len, forecast }
 }
@@ -212,7 +148,7 @@ fn ask_delete(slots: &mut [u64], room: Room, c: Command) -> Room {
     }
     let reply = list::changing::delete(&mut slots[..len], room.forecast, c.x);
     let answer = reply.answer;
-    tell_delete(answer);
+    tell(b"delete", list::telling::tell_delete(answer));
     let forecast = reply.forecast;
     Room { len, forecast }
 }
@@ -223,7 +159,8 @@ fn ask_lookup(slots: &[u64], room: Room, c: Command) {
     if slots.len() < len {
         return;
     }
-    tell_lookup(list::calls::lookup(&slots[..len], c.x));
+    let answer = list::calls::lookup(&slots[..len], c.x);
+    tell(b"lookup", list::telling::tell_lookup(answer));
 }
 
 // 5: scan from x into an output of y numbers, filled with 7 before.
@@ -241,7 +178,8 @@ fn scan_into(slots: &[u64], len: usize, c: Command, output: &mut [u64]) {
     if output.len() < n {
         return;
     }
-    tell_scan(list::calls::scan(&slots[..len], c.x, &mut output[..n]));
+    let answer = list::calls::scan(&slots[..len], c.x, &mut output[..n]);
+    tell(b"scan", list::telling::tell_scan(answer));
     line(b"output", sum_of(output), 0, 0);
 }
 
@@ -251,7 +189,8 @@ fn ask_check(slots: &[u64], room: Room) {
     if slots.len() < len {
         return;
     }
-    tell_check(list::calls::check(&slots[..len], room.forecast));
+    let answer = list::calls::check(&slots[..len], room.forecast);
+    tell(b"check", list::telling::tell_check(answer));
 }
 
 // 7: slot x becomes y.

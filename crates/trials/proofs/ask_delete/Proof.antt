@@ -17,8 +17,14 @@ slice-aggregate-delete c = sym (length-take-le _ _ (search needs))
 delete-requires : tie.Need-delete-requires
 delete-requires c κs = search needs
 
+slice-aggregate-tell : tie.Need-slice-aggregate-tell
+slice-aggregate-tell c = search needs
+
 tell-delete-requires : tie.Need-tell-delete-requires
 tell-delete-requires c κs = search needs
+
+tell-requires : tie.Need-tell-requires
+tell-requires c κs = search needs
 
 same-length : tie.Need-same-length
 same-length c = search needs
@@ -34,6 +40,8 @@ ask-delete-spec =
     slice-relend-prefix-delete
     slice-aggregate-delete
     delete-requires
+    slice-aggregate-tell
     tell-delete-requires
+    tell-requires
     same-length
     returns-2)

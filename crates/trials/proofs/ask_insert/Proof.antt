@@ -17,8 +17,14 @@ slice-aggregate-insert c = sym (length-take-le _ _ (search needs))
 insert-requires : tie.Need-insert-requires
 insert-requires c κs = search needs
 
+slice-aggregate-tell : tie.Need-slice-aggregate-tell
+slice-aggregate-tell c = search needs
+
 tell-insert-requires : tie.Need-tell-insert-requires
 tell-insert-requires c κs = search needs
+
+tell-requires : tie.Need-tell-requires
+tell-requires c κs = search needs
 
 same-length : tie.Need-same-length
 same-length c = search needs
@@ -34,6 +40,8 @@ ask-insert-spec =
     slice-relend-prefix-insert
     slice-aggregate-insert
     insert-requires
+    slice-aggregate-tell
     tell-insert-requires
+    tell-requires
     same-length
     returns-2)

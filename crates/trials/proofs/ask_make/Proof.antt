@@ -17,8 +17,14 @@ slice-aggregate-make c = sym (length-take-le _ _ (search needs))
 make-requires : tie.Need-make-requires
 make-requires c κs = search needs
 
+slice-aggregate-tell : tie.Need-slice-aggregate-tell
+slice-aggregate-tell c = search needs
+
 tell-make-requires : tie.Need-tell-make-requires
 tell-make-requires c κs = search needs
+
+tell-requires : tie.Need-tell-requires
+tell-requires c κs = search needs
 
 same-length : tie.Need-same-length
 same-length c = search needs
@@ -34,6 +40,8 @@ ask-make-spec =
     slice-relend-prefix-make
     slice-aggregate-make
     make-requires
+    slice-aggregate-tell
     tell-make-requires
+    tell-requires
     same-length
     returns-2)

@@ -23,8 +23,14 @@ slice-aggregate-scan-2 c = sym (length-take-le _ _ (search needs))
 scan-requires : tie.Need-scan-requires
 scan-requires c κs = search needs
 
+slice-aggregate-tell : tie.Need-slice-aggregate-tell
+slice-aggregate-tell c = search needs
+
 tell-scan-requires : tie.Need-tell-scan-requires
 tell-scan-requires c κs = search needs
+
+tell-requires : tie.Need-tell-requires
+tell-requires c κs = search needs
 
 slice-aggregate-line : tie.Need-slice-aggregate-line
 slice-aggregate-line c = search needs
@@ -51,7 +57,9 @@ scan-into-spec =
     slice-relend-prefix-scan
     slice-aggregate-scan-2
     scan-requires
+    slice-aggregate-tell
     tell-scan-requires
+    tell-requires
     slice-aggregate-line
     sum-of-requires
     line-requires

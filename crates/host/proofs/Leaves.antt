@@ -1,0 +1,110 @@
+-- What a refused call of a C program leaves.
+use Prim.Native.Nat.{ℕ, _≤_}
+use mathlib.Core.Path.{_≡_, refl, ap, _∙_}
+use mathlib.Core.Bool.{Bool, true, false, not, _||_}
+use mathlib.Core.Logic.{_≢_, inl, inr}
+use mathlib.Core.List.{List, [], _∷_}
+use native.Mathlib.Omega.{arith}
+use lib.Dec.{T, eqb, eqb→eq}
+use lib.ListN.{length}
+use Rattle.lists.specs.Lists.{padded}
+use Rattle.lists.proofs.Tests.{neither, double-not}
+use Rattle.forecast.specs.declared.Forecast.{Forecast}
+use Rattle.forecast.specs.Cells.{forecastOf}
+use Rattle.rules.specs.declared.Request.the-variants.{Insert, Delete}
+use Rattle.rules.specs.declared.Totals.{Totals}
+use Rattle.rules.specs.Looking.{Found, Scanned}
+use Rattle.rules.specs.Runs.{one}
+use Rattle.rules.specs.Checks as checks
+use Rattle.rules.specs.Calls as rules
+use Rattle.rules.specs.Rows.{Row, Tells, row1, row5, row6, row7, row8}
+use Rattle.rules.proofs.Numbers as below
+use Rattle.rules.proofs.Refused.{request-refused, lookup-refused, scan-refused, make-refused}
+use Rattle.rules.proofs.Runs.{run-refused}
+use Rattle.rules.proofs.Singly as singly
+use Rattle.host.specs.Words.{cellWords, forecastIn, forecastWords, totalsIn, totalsWords}
+use Rattle.host.specs.Calls.{Outcome, sized, notForecast, notTotals, short, over, replyWords, make, lookup, insert, delete, scan, run}
+use Rattle.host.specs.Refused.{Leaves, MakeLeaves, LookupLeaves, ScanLeaves, InsertLeaves, DeleteLeaves, RunLeaves}
+use Rattle.host.proofs.WordLaws.{words-again, totals-again}
+use Rattle.host.proofs.Numbers.{roomy, listRows, allRows, runRows, below-tells}
+
+-- THE NUMBERS OF THE ROWS BELOW are far from 100
+abbrev Small : List Row → Type 0
+Small [] = Unit {0}
+Small (r ∷ rs) = (r .no ≤ 10) × Small rs
+
+small : (rs : List Row) (n : ℕ) → Small rs → Tells rs n → n ≤ 10
+small [] n k t = omega arith
+small (r ∷ rs) n k (inl (w, e)) = let l = k .0 in omega arith
+small (r ∷ rs) n k (inr (w, t)) = small rs n (k .1) t
+
+-- where the sizes fit, what the call below leaves where it is refused
+leaves : (wrong : Bool) (lent zeroed : List (List ℕ)) (o : Outcome) → o .number ≤ 10 → (T (not wrong) → o .number ≢ 0 → o .number ≤ 8 → o .left ≡ zeroed)
+    → Leaves (sized wrong lent o) lent zeroed
+leaves true lent zeroed o s r = record { misfit = λ e. refl; refused = λ a b. absurd (omega arith) }
+leaves false lent zeroed o s r = record { misfit = λ e. absurd (omega arith); refused = λ a b. r tt (λ z. absurd (omega arith)) b }
+
+-- WHAT FITTING SIZES SAY
+forecast-fits : (ws : List ℕ) → T (not (notForecast ws)) → length ws ≡ 37
+forecast-fits ws t = eqb→eq (length ws) 37 (double-not (eqb (length ws) 37) t)
+
+totals-fit : (ws : List ℕ) → T (not (notTotals ws)) → length ws ≡ 4
+totals-fit ws t = eqb→eq (length ws) 4 (double-not (eqb (length ws) 4) t)
+
+-- THE CALLS
+pub make-leaves : MakeLeaves
+unfolding make forecastOf padded cellWords
+make-leaves list forecast =
+    leaves (notForecast forecast) _ _ _ (small (row1 list ∷ []) _ (omega arith) (below.make-tells list)) λ t n s.
+    ap (λ (m : rules.Made). m .slots ∷ forecastWords (m .forecast) ∷ []) (make-refused list n)
+
+pub lookup-leaves : LookupLeaves
+unfolding lookup
+lookup-leaves list key reply =
+    leaves (short reply 2) _ _ _ (small (listRows list (row5 key ∷ [])) _ (omega arith) (below.lookup-tells list key)) λ t n s.
+    ap (λ (f : Found). over (one (f .present) ∷ f .segment ∷ []) reply ∷ []) (lookup-refused list key n)
+
+pub scan-leaves : ScanLeaves
+unfolding scan
+scan-leaves list from output reply =
+    leaves (short reply 2) _ _ _ (small (listRows list []) _ (omega arith) (below.scan-tells list from output)) λ t n s.
+    ap (λ (c : Scanned). c .output ∷ over (c .written ∷ one (c .more) ∷ []) reply ∷ []) (scan-refused list from output n)
+
+pub insert-leaves : InsertLeaves
+unfolding insert
+insert-leaves list forecast key reply =
+    leaves (notForecast forecast || short reply 1) _ _ _
+    (small (allRows list forecast (row5 key ∷ row6 list key ∷ row8 list ∷ [])) _ (omega arith) (below.insert-tells list (forecastIn forecast) key (roomy forecast))) λ t n s.
+    ap (λ (c : rules.Called). c .slots ∷ forecastWords (c .forecast) ∷ over (c .answer .moves ∷ []) reply ∷ []) (request-refused (Insert key) list (forecastIn forecast) n)
+    ∙ ap (λ (ws : List ℕ). list ∷ ws ∷ over (0 ∷ []) reply ∷ []) (words-again forecast (forecast-fits forecast (neither (notForecast forecast) _ t .0)))
+
+pub delete-leaves : DeleteLeaves
+unfolding delete
+delete-leaves list forecast key reply =
+    leaves (notForecast forecast || short reply 2) _ _ _
+    (small (allRows list forecast (row5 key ∷ row7 list key ∷ [])) _ (omega arith) (below.delete-tells list (forecastIn forecast) key (roomy forecast))) λ t n s.
+    ap (λ (c : rules.Called). c .slots ∷ forecastWords (c .forecast) ∷ over (c .answer .moves ∷ one (c .answer .sparse) ∷ []) reply ∷ [])
+    (request-refused (Delete key) list (forecastIn forecast) n)
+    ∙ ap (λ (ws : List ℕ). list ∷ ws ∷ over (0 ∷ 0 ∷ []) reply ∷ []) (words-again forecast (forecast-fits forecast (neither (notForecast forecast) _ t .0)))
+
+-- A RUN that stops by no more than 8 was refused by its check
+unchecked : (list : List ℕ) (F : Forecast) (requests : List ℕ) (allowance : ℕ) (S : Totals) → rules.run list F requests allowance S .reply .stop ≢ 0
+    → rules.run list F requests allowance S .reply .stop ≤ 8 → checks.check list F ≢ 0
+unchecked list F requests allowance S n s z =
+    elim (singly.run-tells list F requests allowance S z .0) [
+      | inl x ↦ let e = x .1 in omega arith
+      | inr x ↦ elim (x .1) [ inl y ↦ let e = y .1 in omega arith | inr y ↦ n (y .1) ]
+    ]
+
+pub run-leaves : RunLeaves
+unfolding run
+run-leaves list forecast requests allowance totals reply =
+    leaves (notForecast forecast || (notTotals totals || short reply 4)) _ _ _
+    (small (allRows list forecast (runRows list forecast requests allowance totals reply)) _ (omega arith) (below-tells list forecast requests allowance totals reply)) λ t n s.
+    let F = forecastIn forecast in
+    let S = totalsIn totals in
+    let f = forecast-fits forecast (neither (notForecast forecast) _ t .0) in
+    let g = totals-fit totals (neither (notTotals totals) _ (neither (notForecast forecast) _ t .1) .0) in
+    ap (λ (w : rules.Worked). w .slots ∷ forecastWords (w .forecast) ∷ totalsWords (w .totals) ∷ over (replyWords (w .reply)) reply ∷ [])
+    (run-refused list F requests allowance S (unchecked list F requests allowance S n s))
+    ∙ (λ i. list ∷ words-again forecast f i ∷ totals-again totals g i ∷ over (0 ∷ 0 ∷ 0 ∷ 0 ∷ []) reply ∷ [])

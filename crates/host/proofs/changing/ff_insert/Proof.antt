@@ -1,0 +1,64 @@
+-- `ff_insert`: the insert on the forecast that the words show, its words then, and the word of the reply.
+use Rattle.host.proofs.ChangeGiven.{insert-misfit, insert-given}
+use Rattle.host.proofs.Sized.{first-wrong, second-wrong, not-forecast, is-forecast, is-short}
+use borrow.Author.Needs.{needs}
+use Rattle.host.proofs.changing.ff_insert.Statement.{statement}
+use Rattle.host.proofs.changing.ff_insert.Tie as tie
+
+returns : tie.Need-returns
+returns c =
+    let a = c .before .before .before .before .args in
+    insert-misfit (a .list .now) (a .forecast .now) (a .key) (a .reply .now) (first-wrong _ _ (not-forecast (a .forecast .now) (c .if1 .taken)))
+
+returns-2 : tie.Need-returns-2
+returns-2 c =
+    let a = c .before .before .before .before .before .args in
+    insert-misfit (a .list .now) (a .forecast .now) (a .key) (a .reply .now) (second-wrong _ _ (is-forecast (a .forecast .now) (c .before .if1 .left)) (is-short (a .reply .now) 1 (c .if2 .taken)))
+
+read-forecast-requires : tie.Need-read-forecast-requires
+read-forecast-requires c κs = search needs
+
+insert-requires : tie.Need-insert-requires
+insert-requires c κs = search needs
+
+write-forecast-requires : tie.Need-write-forecast-requires
+write-forecast-requires c κs = search needs
+
+tell-insert-requires : tie.Need-tell-insert-requires
+tell-insert-requires c κs = search needs
+
+slice-write-reply : tie.Need-slice-write-reply
+slice-write-reply c = search needs
+
+same-length : tie.Need-same-length
+same-length c = search needs
+
+same-length-2 : tie.Need-same-length-2
+same-length-2 c = search needs
+
+same-length-3 : tie.Need-same-length-3
+same-length-3 c = search needs
+
+returns-3 : tie.Need-returns-3
+returns-3 c =
+    let a = c .before .before .before .before .before .before .before .before .before .before .before .before .before .before .before .before .before .args in
+    let read = c .before .before .before .before .before .before .before .before .before .before .read-forecast in
+    let done = c .before .before .before .before .before .before .before .before .insert in
+    let told = c .tell-insert in
+    insert-given (a .list .now) (a .forecast .now) (a .key) (a .reply .now) (read .result) (done .result) (told .result) _ _ (c .before .before .before .before .before .before .before .before .before .before .before .before .before .if1 .left) (c .before .before .before .before .before .before .before .before .before .before .before .before .if2 .left) (read .ensures) (done .ensures) (c .before .before .before .write-forecast .ensures) (told .ensures)
+
+pub ff-insert-spec : {M : Type 1} → statement M
+ff-insert-spec =
+    tie.close
+    (tie.spec
+    returns
+    returns-2
+    read-forecast-requires
+    insert-requires
+    write-forecast-requires
+    tell-insert-requires
+    slice-write-reply
+    same-length
+    same-length-2
+    same-length-3
+    returns-3)

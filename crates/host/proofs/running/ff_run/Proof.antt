@@ -1,0 +1,78 @@
+-- `ff_run`: the run on the forecast and totals that the words show, their words then, and the reply's.
+use Rattle.host.proofs.RunGiven.{run-misfit, run-given}
+use Rattle.host.proofs.Sized.{first-wrong, second-wrong, not-forecast, is-forecast, not-totals, is-totals, is-short}
+use borrow.Author.Needs.{needs}
+use Rattle.host.proofs.running.ff_run.Statement.{statement}
+use Rattle.host.proofs.running.ff_run.Tie as tie
+
+returns : tie.Need-returns
+returns c =
+    let a = c .before .before .before .before .before .before .args in
+    run-misfit (a .list .now) (a .forecast .now) (a .requests .now) (a .allowance) (a .totals .now) (a .reply .now) (first-wrong _ _ (not-forecast (a .forecast .now) (c .if1 .taken)))
+
+returns-2 : tie.Need-returns-2
+returns-2 c =
+    let a = c .before .before .before .before .before .before .before .args in
+    run-misfit (a .list .now) (a .forecast .now) (a .requests .now) (a .allowance) (a .totals .now) (a .reply .now) (second-wrong _ _ (is-forecast (a .forecast .now) (c .before .if1 .left)) (first-wrong _ _ (not-totals (a .totals .now) (c .if2 .taken))))
+
+returns-3 : tie.Need-returns-3
+returns-3 c =
+    let a = c .before .before .before .before .before .before .before .before .args in
+    run-misfit (a .list .now) (a .forecast .now) (a .requests .now) (a .allowance) (a .totals .now) (a .reply .now) (second-wrong _ _ (is-forecast (a .forecast .now) (c .before .before .if1 .left)) (second-wrong _ _ (is-totals (a .totals .now) (c .before .if2 .left)) (is-short (a .reply .now) 4 (c .if3 .taken))))
+
+read-forecast-requires : tie.Need-read-forecast-requires
+read-forecast-requires c κs = search needs
+
+read-totals-requires : tie.Need-read-totals-requires
+read-totals-requires c κs = search needs
+
+run-with-requires : tie.Need-run-with-requires
+run-with-requires c κs = search needs
+
+write-forecast-requires : tie.Need-write-forecast-requires
+write-forecast-requires c κs = search needs
+
+write-totals-requires : tie.Need-write-totals-requires
+write-totals-requires c κs = search needs
+
+write-reply-requires : tie.Need-write-reply-requires
+write-reply-requires c κs = search needs
+
+same-length : tie.Need-same-length
+same-length c = search needs
+
+same-length-2 : tie.Need-same-length-2
+same-length-2 c = search needs
+
+same-length-3 : tie.Need-same-length-3
+same-length-3 c = search needs
+
+same-length-4 : tie.Need-same-length-4
+same-length-4 c = search needs
+
+returns-4 : tie.Need-returns-4
+returns-4 c =
+    let a = c .before .before .before .before .before .before .before .before .before .before .before .before .before .before .before .before .before .before .before .before .before .before .before .before .before .before .before .before .before .before .args in
+    let forecast = c .before .before .before .before .before .before .before .before .before .before .before .before .before .before .before .before .before .before .before .before .read-forecast in
+    let totals = c .before .before .before .before .before .before .before .before .before .before .before .before .before .before .before .before .before .before .read-totals in
+    let ran = c .before .before .before .before .before .before .before .before .before .before .before .before .before .before .before .before .run-with in
+    run-given (a .list .now) (a .forecast .now) (a .requests .now) (a .allowance) (a .totals .now) (a .reply .now) (forecast .result) (totals .result) (ran .result) _ _ _ _ (c .before .before .before .before .before .before .before .before .before .before .before .before .before .before .before .before .before .before .before .before .before .before .before .before .if1 .left) (c .before .before .before .before .before .before .before .before .before .before .before .before .before .before .before .before .before .before .before .before .before .before .before .if2 .left) (c .before .before .before .before .before .before .before .before .before .before .before .before .before .before .before .before .before .before .before .before .before .before .if3 .left) (forecast .ensures) (totals .ensures) (ran .ensures) (c .before .before .before .before .before .before .before .before .before .before .write-forecast .ensures) (c .before .before .before .before .before .before .write-totals .ensures) (c .before .before .write-reply .ensures)
+
+pub ff-run-spec : {M : Type 1} → statement M
+ff-run-spec =
+    tie.close
+    (tie.spec
+    returns
+    returns-2
+    returns-3
+    read-forecast-requires
+    read-totals-requires
+    run-with-requires
+    write-forecast-requires
+    write-totals-requires
+    write-reply-requires
+    same-length
+    same-length-2
+    same-length-3
+    same-length-4
+    returns-4)

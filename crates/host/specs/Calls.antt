@@ -1,0 +1,91 @@
+-- The calls for C programs: what each returns, and what it leaves in each slice that it may write to, in the order of its arguments. Each is
+-- the call of `rules`, with forecast and totals as words.
+use Prim.Native.Nat.{ℕ}
+use mathlib.Core.Path.{_≡_}
+use mathlib.Core.Bool.{Bool, not, _||_}
+use mathlib.Core.List.{List, [], _∷_, _++_}
+use lib.Dec.{eqb, ltb}
+use lib.ListN.{length, drop}
+use Rattle.lists.specs.Choice.{if_then_else_}
+use Rattle.rules.specs.Looking.{Found, Scanned}
+use Rattle.rules.specs.Runs.{one}
+use Rattle.rules.specs.Checks as checks
+use Rattle.rules.specs.Calls as rules
+use Rattle.host.specs.Words.{forecastIn, forecastWords, totalsIn, totalsWords}
+
+pub record Outcome : Type 0 where
+  pub number : ℕ
+  pub left : List (List ℕ)
+
+-- A forecast that is not 37 words, totals that are not 4, or a reply shorter than listed: 100, tested before all else, and nothing touched.
+abbrev pub sized : Bool → List (List ℕ) → Outcome → Outcome
+sized wrong lent o = if wrong then record { number = 100; left = lent } else o
+
+abbrev pub notForecast : List ℕ → Bool
+notForecast ws = not (eqb (length ws) 37)
+
+abbrev pub notTotals : List ℕ → Bool
+notTotals ws = not (eqb (length ws) 4)
+
+abbrev pub short : List ℕ → ℕ → Bool
+short reply n = ltb (length reply) n
+
+-- The listed words over the first of a reply; the words beyond stay.
+abbrev pub over : List ℕ → List ℕ → List ℕ
+over ws reply = ws ++ drop (length ws) reply
+
+unfoldable pub make : List ℕ → List ℕ → Outcome
+make list forecast =
+    let m : rules.Made = rules.make list in
+    sized (notForecast forecast) (list ∷ forecast ∷ []) (record { number = m .number; left = m .slots ∷ forecastWords (m .forecast) ∷ [] })
+
+unfoldable pub check : List ℕ → List ℕ → Outcome
+check list forecast = sized (notForecast forecast) [] (record { number = checks.check list (forecastIn forecast); left = [] })
+
+-- reply: present, segment
+unfoldable pub lookup : List ℕ → ℕ → List ℕ → Outcome
+lookup list key reply =
+    let f : Found = rules.lookup list key in
+    sized (short reply 2) (reply ∷ []) (record { number = f .number; left = over (one (f .present) ∷ f .segment ∷ []) reply ∷ [] })
+
+-- reply: moves
+unfoldable pub insert : List ℕ → List ℕ → ℕ → List ℕ → Outcome
+insert list forecast key reply =
+    let c : rules.Called = rules.insert list (forecastIn forecast) key in
+    sized (notForecast forecast || short reply 1) (list ∷ forecast ∷ reply ∷ [])
+    (record { number = c .answer .number; left = c .slots ∷ forecastWords (c .forecast) ∷ over (c .answer .moves ∷ []) reply ∷ [] })
+
+-- reply: moves, sparse
+unfoldable pub delete : List ℕ → List ℕ → ℕ → List ℕ → Outcome
+delete list forecast key reply =
+    let c : rules.Called = rules.delete list (forecastIn forecast) key in
+    sized (notForecast forecast || short reply 2) (list ∷ forecast ∷ reply ∷ [])
+    (record {
+      number = c .answer .number;
+      left = c .slots ∷ forecastWords (c .forecast) ∷ over (c .answer .moves ∷ one (c .answer .sparse) ∷ []) reply ∷ [];
+    })
+
+-- reply: written, more
+unfoldable pub scan : List ℕ → ℕ → List ℕ → List ℕ → Outcome
+scan list from output reply =
+    let s : Scanned = rules.scan list from output in
+    sized (short reply 2) (output ∷ reply ∷ [])
+    (record { number = s .number; left = s .output ∷ over (s .written ∷ one (s .more) ∷ []) reply ∷ [] })
+
+-- reply: worked, refused, moves, place; the number is the stop number
+abbrev pub replyWords : rules.Reply → List ℕ
+replyWords r = r .worked ∷ r .refused ∷ r .moves ∷ r .place ∷ []
+
+unfoldable pub run : List ℕ → List ℕ → List ℕ → ℕ → List ℕ → List ℕ → Outcome
+run list forecast requests allowance totals reply =
+    let w : rules.Worked = rules.run list (forecastIn forecast) requests allowance (totalsIn totals) in
+    sized (notForecast forecast || (notTotals totals || short reply 4)) (list ∷ forecast ∷ totals ∷ reply ∷ [])
+    (record {
+      number = w .reply .stop;
+      left = w .slots ∷ forecastWords (w .forecast) ∷ totalsWords (w .totals) ∷ over (replyWords (w .reply)) reply ∷ [];
+    })
+
+-- What each call promises: the number that it returns and what it leaves are those of its definition.
+pub record Gives (o : Outcome) (r : ℕ) (left : List (List ℕ)) : Type 0 where
+  pub number : r ≡ o .number
+  pub slices : left ≡ o .left

@@ -1,0 +1,55 @@
+// A run of request records.
+ghost use mathlib.Core.Path.{_≡_};
+ghost use mathlib.Core.List.{[], _∷_};
+ghost use Prim.Native.Nat.{_≤_};
+ghost use lib.ListN.{length};
+ghost use Rattle.host.specs.Calls.{over, Gives};
+ghost use Rattle.host.specs.Calls as calls;
+use crate::FORECAST;
+use crate::MISFIT;
+use crate::TOTALS;
+use crate::words;
+use run::Reply;
+
+// A run's reply: records worked, records refused, moves, and the byte place.
+fn write_reply(done: Reply, reply: &mut [u64])
+    requires { ⌜ 4 ≤ length (now reply) ⌝ }
+    ensures { λ _. ⌜ now (reply .exit) ≡ over (done .worked ∷ done .refused ∷ done .moves ∷ done .place ∷ []) (now (reply .entry)) ⌝ }
+{
+    reply[0] = done.worked as u64;
+    reply[1] = done.refused as u64;
+    reply[2] = done.moves;
+    reply[3] = done.place as u64;
+}
+
+// Works request records, within an allowance of moves.
+#[no_mangle]
+pub extern "C" fn ff_run(
+    list: &mut [u64],
+    forecast: &mut [u64],
+    requests: &[u8],
+    allowance: u64,
+    totals: &mut [u32],
+    reply: &mut [u64],
+) -> u64
+    ensures { λ r. ⌜ Gives (calls.run (now (list .entry)) (now (forecast .entry)) (now (requests .entry)) allowance (now (totals .entry)) (now (reply .entry))) r (now (list .exit) ∷ now (forecast .exit) ∷ now (totals .exit) ∷ now (reply .exit) ∷ []) ⌝ }
+{
+    if forecast.len() != FORECAST {
+        return MISFIT;
+    }
+    if totals.len() != TOTALS {
+        return MISFIT;
+    }
+    if reply.len() < 4 {
+        return MISFIT;
+    }
+    let given = words::read_forecast(forecast);
+    let before = words::read_totals(totals);
+    let ran = run::running::run_with(list, given, requests, allowance, before);
+    let done = ran.reply;
+    let left = done.forecast;
+    words::write_forecast(left, forecast);
+    words::write_totals(ran.totals, totals);
+    write_reply(done, reply);
+    done.stop as u64
+}

@@ -1,0 +1,71 @@
+// Moves by the rules (the archive's own replies) and with even spacing, by pattern. Stops with an error where the two must agree and
+// do not. Writes, with tabs between:  pattern NAME REQUESTS KEYS MOVES SWEEPS EVEN-MOVES EVEN-SWEEPS
+//                                     curve NAME REQUEST MOVES-SO-FAR EVEN-MOVES-SO-FAR
+#include <cstdio>
+#include <cstdlib>
+
+#include "archive.h"
+#include "even.h"
+
+static void must(bool holds, const char *what, const Pattern &p, size_t request) {
+  if (holds) return;
+  fprintf(stderr, "moves: %s, request %zu: %s\n", p.name.c_str(), request, what);
+  exit(1);
+}
+
+static std::vector<uint64_t> live(const std::vector<uint64_t> &slots) {
+  std::vector<uint64_t> keys;
+  for (uint64_t key : slots)
+    if (key != 0) keys.push_back(key);
+  return keys;
+}
+
+// The archive's outcome of one request on these slots with an empty forecast; the slots become those after it.
+static Outcome by_archive(std::vector<uint64_t> &slots, const Request &q) {
+  List list;
+  list.slots = slots;
+  const uint64_t moves = list.run(records({q}));
+  slots = list.slots;
+  return {moves, list.totals[3] == 1};
+}
+
+struct Sum {
+  uint64_t moves = 0, sweeps = 0;
+  void add(const Outcome &o) { moves += o.moves, sweeps += o.swept; }
+};
+
+// With an empty forecast the rules and even spacing choose the same window and make the same moves on any one request. They leave
+// the same slots too, unless an insert sweeps: then the key before it has a weight.
+static Outcome even_step(Even &even, const Pattern &p, size_t i) {
+  const Request &q = p.requests[i];
+  std::vector<uint64_t> slots = even.slots();
+  const Outcome archive = by_archive(slots, q), own = even.work(q);
+  must(own.moves == archive.moves && own.swept == archive.swept, "even spacing moves otherwise", p, i);
+  const bool weighed = q.insert && own.swept;
+  must(weighed ? live(even.slots()) == live(slots) : even.slots() == slots, "even spacing leaves other slots", p, i);
+  return own;
+}
+
+static void compare(const Pattern &p) {
+  List single, whole;
+  Even even;
+  uint64_t rules = 0;
+  Sum spaced;
+  for (size_t i = 0; i < p.requests.size(); i++) {
+    must(single.work(p.requests[i], rules), "refused", p, i);
+    spaced.add(even_step(even, p, i));
+    must(live(single.slots) == live(even.slots()), "the two hold other keys", p, i);
+    if (i % 16 == 15)
+      printf("curve\t%s\t%zu\t%llu\t%llu\n", p.name.c_str(), i + 1, (unsigned long long)rules,
+             (unsigned long long)spaced.moves);
+  }
+  const uint64_t moves = whole.run(records(p.requests));
+  must(moves == rules && whole.slots == single.slots && whole.forecast == single.forecast, "a run and single calls differ", p,
+       p.requests.size());
+  printf("pattern\t%s\t%zu\t%zu\t%llu\t%u\t%llu\t%llu\n", p.name.c_str(), p.requests.size(), live(single.slots).size(),
+         (unsigned long long)moves, whole.totals[3], (unsigned long long)spaced.moves, (unsigned long long)spaced.sweeps);
+}
+
+int main() {
+  for (const Pattern &p : patterns()) compare(p);
+}

@@ -1,0 +1,103 @@
+// See patterns.h.
+#include "patterns.h"
+
+#include <utility>
+
+using Requests = std::vector<Request>;
+
+uint64_t Random::key() {
+  uint64_t z = state += 0x9e3779b97f4a7c15;
+  z = (z ^ (z >> 30)) * 0xbf58476d1ce4e5b9;
+  z = (z ^ (z >> 27)) * 0x94d049bb133111eb;
+  return (z ^ (z >> 31)) | 1;
+}
+
+static Requests up() {
+  Requests r;
+  for (uint64_t k = 1; k <= MOST; k++) r.push_back({true, k});
+  return r;
+}
+
+static Requests down() {
+  Requests r;
+  for (uint64_t k = MOST; k >= 1; k--) r.push_back({true, k});
+  return r;
+}
+
+// Puts n keys behind `moment`, each just behind it, so before the one put there last.
+static void behind(Requests &r, uint64_t moment, size_t n) {
+  for (size_t i = n; i >= 1; i--) r.push_back({true, moment + i});
+}
+
+static Requests hammer() {
+  Requests r{{true, 1 << 20}};
+  behind(r, 1 << 20, MOST - 1);
+  return r;
+}
+
+static Requests anywhere() {
+  Requests r;
+  Random random(1);
+  while (r.size() < MOST) r.push_back({true, random.key()});
+  return r;
+}
+
+// 64 stretches of 32 keys that follow each other, rising.
+static Requests bulk() {
+  Requests r;
+  Random random(2);
+  while (r.size() < MOST) {
+    const uint64_t first = random.key();
+    for (uint64_t i = 0; i < 32; i++) r.push_back({true, first + i});
+  }
+  return r;
+}
+
+// Three inserts to a delete for the first half, then three deletes to an insert.
+static Requests mixed() {
+  Requests r;
+  std::vector<uint64_t> live;
+  Random random(3);
+  while (r.size() < 2 * MOST) {
+    const bool often = random.below(4) != 0, growing = r.size() < MOST;
+    if (often == growing || live.empty()) {
+      live.push_back(random.key());
+      r.push_back({true, live.back()});
+    } else {
+      std::swap(live[random.below(live.size())], live.back());
+      r.push_back({false, live.back()});
+      live.pop_back();
+    }
+  }
+  return r;
+}
+
+// A lesson of 64 moments; then thirty keys behind one of them, thirty behind another, until each has had its thirty.
+static Requests thirty() {
+  Requests r;
+  Random random(4);
+  std::vector<uint64_t> left;
+  for (uint64_t i = 1; i <= 64; i++) left.push_back(i << 20);
+  for (uint64_t moment : left) r.push_back({true, moment});
+  while (!left.empty()) {
+    std::swap(left[random.below(left.size())], left.back());
+    behind(r, left.back(), 30);
+    left.pop_back();
+  }
+  return r;
+}
+
+std::vector<Pattern> patterns() {
+  return {{"sequential up", up()}, {"sequential down", down()}, {"hammer on one key", hammer()},
+          {"random", anywhere()},  {"bulk", bulk()},            {"mixed", mixed()},
+          {"thirty behind one moment", thirty()}};
+}
+
+std::vector<uint8_t> records(const Requests &requests) {
+  std::vector<uint8_t> bytes;
+  for (const Request &q : requests) {
+    bytes.insert(bytes.end(), {0xA5, 0x5A, uint8_t(q.insert ? 1 : 2)});
+    for (int shift = 56; shift >= 0; shift -= 8) bytes.push_back(uint8_t(q.key >> shift));
+  }
+  return bytes;
+}

@@ -1,0 +1,34 @@
+// The patterns of requests that are measured, at height 6: each from an empty list, with a fixed seed, no request refused.
+#ifndef BENCH_PATTERNS_H
+#define BENCH_PATTERNS_H
+#include <cstddef>
+#include <cstdint>
+#include <string>
+#include <vector>
+
+constexpr int HEIGHT = 6;
+constexpr size_t SEGMENT = 64, SEGMENTS = 1 << HEIGHT, SLOTS = SEGMENT * SEGMENTS, MOST = SLOTS / 2;
+
+struct Request {
+  bool insert; // else delete
+  uint64_t key;
+};
+struct Pattern {
+  std::string name;
+  std::vector<Request> requests;
+};
+
+// A splitmix64 generator: the same numbers on every machine.
+class Random {
+ public:
+  explicit Random(uint64_t seed) : state(seed) {}
+  uint64_t key(); // an odd number
+  size_t below(size_t n) { return key() / 2 % n; }
+
+ private:
+  uint64_t state;
+};
+
+std::vector<Pattern> patterns();
+std::vector<uint8_t> records(const std::vector<Request> &); // as a run takes them
+#endif

@@ -1,0 +1,197 @@
+/* A small classroom in C: loads an exercise, works request records, looks up, scans, meets refusals, and draws the list.
+   examples/run builds it, runs it, and holds what it prints to examples/host.out. */
+#include <inttypes.h>
+#include <stdio.h>
+#include <stdlib.h>
+#include <string.h>
+
+#include "ffalwenog.h"
+
+enum { SEGMENT = 64, SEGMENTS = 4, SLOTS = SEGMENT * SEGMENTS }; /* height 2: 64 * 2^2 slots, so at most 128 keys */
+enum { FLOODING = 1, CARGO_SHIFT = 2, PUMP_FAILURE = 3 };         /* kinds of events */
+enum { INSERT = 1, DELETE = 2 };                                  /* kinds of requests */
+enum { ALLOWANCE = 300 }; /* moves of one run; a single record never needs more than 128, the keys of a full list */
+
+/* All that a classroom keeps, and lends to the calls. */
+struct room {
+    uint64_t list[SLOTS];
+    uint64_t forecast[FF_FORECAST];
+    uint32_t totals[FF_TOTALS];
+};
+
+/* Request records, one behind the other. */
+struct requests {
+    uint8_t bytes[40 * 11];
+    size_t length;
+};
+
+/* Ends the program where a number is not what it must be. */
+static void must(const char *what, uint64_t is, uint64_t must_be)
+{
+    if (is == must_be)
+        return;
+    fprintf(stderr, "%s: %" PRIu64 ", but it must be %" PRIu64 "\n", what, is, must_be);
+    exit(1);
+}
+
+/* The key of an event: the minute of the day, the kind, and which compartment, hold or pump; so keys rise with time.
+   Kind 0 and number 0 give a key just below all events of that minute: a place to scan from. */
+static uint64_t event(unsigned hour, unsigned minute, unsigned kind, unsigned which)
+{
+    return (uint64_t)(60 * hour + minute) << 16 | kind << 8 | which;
+}
+
+static void print_event(uint64_t key)
+{
+    static const char *const words[] = {"nothing", "flooding of compartment", "cargo shift in hold", "failure of pump"};
+    unsigned minute = (unsigned)(key >> 16);
+
+    printf("  %02u:%02u  %s %u\n", minute / 60, minute % 60, words[key >> 8 & 3], (unsigned)(key & 255));
+}
+
+/* The count of the forecast's cell with this marker (0: the front of the list), or 0 where no cell has it. */
+static uint64_t forecast_count(const struct room *room, uint64_t marker)
+{
+    for (size_t i = 0; i < room->forecast[0]; i++) {
+        const uint64_t *cell = room->forecast + 1 + 3 * i; /* marker, segment, count */
+        if (cell[0] == marker)
+            return cell[2];
+    }
+    return 0;
+}
+
+/* Draws a line a segment: '.' a gap, '#' a key, and a digit for a key behind which the forecast awaits more: its cell's count. */
+static void draw(const struct room *room)
+{
+    for (int segment = 0; segment < SEGMENTS; segment++) {
+        int keys = 0;
+        printf("  segment %d  ", segment);
+        for (int i = 0; i < SEGMENT; i++) {
+            uint64_t key = room->list[SEGMENT * segment + i];
+            uint64_t count = key == 0 ? 0 : forecast_count(room, key);
+            keys += key != 0;
+            putchar(key == 0 ? '.' : count == 0 ? '#' : (int)('0' + count)); /* at height 2 no count is above 8 */
+        }
+        printf(" %3d keys", keys);
+        if (segment == 0 && forecast_count(room, 0) != 0)
+            printf(", and the front's cell counts %" PRIu64, forecast_count(room, 0));
+        putchar('\n');
+    }
+}
+
+/* Loads the plan of the exercise: from 09:00 an event every other minute, the kinds in turn. */
+static void load(struct room *room)
+{
+    uint64_t moves;
+
+    must("make", ff_make(room->list, SLOTS, room->forecast, FF_FORECAST), 0);
+    for (unsigned i = 0; i < 80; i++) {
+        uint64_t key = event(9, 2 * i, FLOODING + i % 3, 1 + i % 5);
+        must("insert", ff_insert(room->list, SLOTS, room->forecast, FF_FORECAST, key, &moves, 1), 0);
+    }
+    printf("The plan: 80 events from 09:00, every other minute. ('#' a key, '.' a gap, a digit the count of a marker's cell.)\n");
+    draw(room);
+}
+
+/* Adds a record: the mark, the kind, the key with its high byte first. */
+static void ask(struct requests *requests, uint8_t kind, uint64_t key)
+{
+    uint8_t *to = requests->bytes + requests->length;
+
+    must("room for a record", requests->length + 11 <= sizeof requests->bytes, 1);
+    to[0] = 0xA5;
+    to[1] = 0x5A;
+    to[2] = kind;
+    for (int i = 0; i < 8; i++)
+        to[3 + i] = (uint8_t)(key >> (56 - 8 * i));
+    requests->length += 11;
+}
+
+/* Works the records in runs of at most ALLOWANCE moves. Each run begins at the record that stopped the one before. */
+static void work(struct room *room, const struct requests *requests)
+{
+    size_t place = 0;
+    uint64_t number, reply[4]; /* records worked, records refused, moves, byte place */
+
+    do {
+        number = ff_run(room->list, SLOTS, room->forecast, FF_FORECAST, requests->bytes + place, requests->length - place,
+                        ALLOWANCE, room->totals, FF_TOTALS, reply, 4);
+        if (number != 10)
+            must("run", number, 0);
+        printf("  a run: %" PRIu64 " worked, %" PRIu64 " refused, %" PRIu64 " moves, %s\n", reply[0], reply[1], reply[2],
+               number == 10 ? "stopped by the allowance" : "at the end");
+        place += reply[3];
+    } while (number == 10);
+    must("place", place, requests->length);
+}
+
+/* Changes the plan by request records. */
+static void change(struct room *room)
+{
+    struct requests requests = {.length = 0};
+
+    for (unsigned i = 30; i > 0; i--) /* the last first: each falls just behind the event of 10:00 */
+        ask(&requests, INSERT, event(10, 1, FLOODING, i));
+    for (unsigned i = 4; i > 0; i--) /* before all others: just behind the front */
+        ask(&requests, INSERT, event(8, 50, PUMP_FAILURE, i));
+    ask(&requests, DELETE, event(9, 0, FLOODING, 1));
+    ask(&requests, DELETE, event(9, 2, CARGO_SHIFT, 2));
+    ask(&requests, DELETE, event(9, 0, FLOODING, 1)); /* gone already: refused, and the run goes on */
+    printf("\nThe change: 30 floodings at 10:01, 4 pump failures at 08:50, and 3 deletes, the last of a key that is gone.\n");
+    work(room, &requests);
+    draw(room);
+    must("records worked", room->totals[0], 37);
+    must("records refused", room->totals[1], 1);
+    printf("  totals: records worked %" PRIu32 ", refused %" PRIu32 ", keys moved %" PRIu32 ", sweeps %" PRIu32 "\n", room->totals[0],
+           room->totals[1], room->totals[2], room->totals[3]);
+}
+
+/* Looks one event up, and reads the six from 10:00 on. */
+static void look(const struct room *room)
+{
+    uint64_t found[2], keys[6], reply[2];
+
+    must("lookup", ff_lookup(room->list, SLOTS, event(10, 1, FLOODING, 7), found, 2), 0);
+    must("the key is live", found[0], 1);
+    printf("\nThe flooding of compartment 7 at 10:01 is in segment %" PRIu64 ". Six events from 10:00 on:\n", found[1]);
+    must("scan", ff_scan(room->list, SLOTS, event(10, 0, 0, 0), keys, 6, reply, 2), 0);
+    must("keys written", reply[0], 6);
+    for (int i = 0; i < 6; i++)
+        print_event(keys[i]);
+    must("a key remains", reply[1], 1);
+    printf("  and more after these\n");
+}
+
+/* Refused calls leave everything as it was, even where the classroom's own memory is damaged. */
+static void refusals(struct room *room)
+{
+    struct room before = *room;
+    uint64_t moves = 9, sound = room->list[5];
+
+    printf("\nRefused, with nothing changed:\n");
+    must("the same key twice",
+         ff_insert(room->list, SLOTS, room->forecast, FF_FORECAST, event(10, 1, FLOODING, 7), &moves, 1), 6);
+    must("moves", moves, 0);
+    must("a change", memcmp(room, &before, sizeof before) != 0, 0);
+    printf("  6  the same key twice\n");
+
+    before.list[5] = room->list[5] = room->list[4]; /* keys no longer rise strictly */
+    must("a damaged slot", ff_insert(room->list, SLOTS, room->forecast, FF_FORECAST, event(12, 0, FLOODING, 1), &moves, 1), 2);
+    must("a change", memcmp(room, &before, sizeof before) != 0, 0);
+    printf("  2  an insert while slot 5 is damaged\n");
+
+    room->list[5] = sound;
+    must("check", ff_check(room->list, SLOTS, room->forecast, FF_FORECAST), 0);
+    printf("The slot mended, the check gives 0.\n");
+}
+
+int main(void)
+{
+    struct room room = {.totals = {0}};
+
+    load(&room);
+    change(&room);
+    look(&room);
+    refusals(&room);
+    return 0;
+}

@@ -1,0 +1,14 @@
+"""All groups of calls, and the numbers that each call must be seen to return.
+
+A group is a function of a random source, a height and the number of the episode. It yields what each call is lent, and is sent what the
+call must return and leave.
+"""
+import records
+import refusals
+import sequences
+
+GROUPS = {**sequences.GROUPS, **refusals.GROUPS, **records.GROUPS}
+
+REACHED = dict(make=(0, 1, 100), check=(0, 1, 2, 3, 4, 100), lookup=(0, 1, 2, 3, 5, 100), insert=(0, 1, 2, 3, 4, 5, 6, 8, 100),
+               delete=(0, 1, 2, 3, 4, 5, 7, 100), scan=(0, 1, 2, 3, 100), run=(0, 1, 2, 3, 4, 9, 10, 100))
+ENOUGH = 5000       # calls of all groups that reach all these

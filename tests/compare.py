@@ -1,0 +1,150 @@
+"""Compares the archive with the model: every answer and all lent memory of COUNT calls, random but for the SEED.
+
+    python3 tests/compare.py [--groups A,B] [--heights 1,2] [--first] [--again GROUP:HEIGHT:EPISODE] [COUNT [SEED]]
+
+FF_CC, FF_ARCHIVE and FF_EMULATOR name the compiler, the archive and the emulator if there is one (tests/run sets them).
+"""
+import argparse
+import collections
+import multiprocessing
+import random
+import sys
+import tempfile
+
+import cases
+import oracle
+import wire
+
+Task = collections.namedtuple("Task", "group height calls seed program episode")
+
+
+def difference(driver, lent):
+    """Makes one call both ways. Gives the outcome by the model, and None or what differs."""
+    driver.ask(lent)
+    returned, after = oracle.outcome(lent)
+    wanted = wire.answer(returned, after)
+    got = driver.answered(len(wanted))
+    if got == wanted:
+        return (returned, after), None
+    if len(got) < len(wanted):
+        return None, "the driver ended"
+    return (returned, after), wire.where(got, wanted, after)
+
+
+def told(lent):
+    """A call in short."""
+    sizes = " ".join("%s %d" % (name, len(slice)) for name, slice in zip(wire.SLICES, lent.slices()) if slice)
+    return "%s(%d) lent %s" % (lent.call, lent.number, sizes)
+
+
+class Cell:
+    """The calls of one group at one height."""
+
+    def __init__(self, task):
+        self.task = task
+        self.calls = 0
+        self.reached = collections.Counter()
+        self.differences = []
+
+    def play(self, driver, episode):
+        """One episode, as far as the calls allow. Gives whether to go on."""
+        task = self.task
+        rng = random.Random("%d %s %d %d" % (task.seed, task.group, task.height, episode))
+        steps = cases.GROUPS[task.group](rng, task.height, episode)
+        outcome = None
+        for n in range(task.calls - self.calls):
+            try:
+                lent = steps.send(outcome)
+            except StopIteration:
+                return True
+            outcome, what = difference(driver, lent)
+            self.calls += 1
+            if what:
+                self.differences.append("seed %d group %s height %d episode %d call %d: %s: %s" % (
+                    task.seed, task.group, task.height, episode, n, told(lent), what))
+                return False
+            self.reached[lent.call, outcome[0]] += 1
+        return True
+
+    def work(self):
+        driver = wire.Driver(self.task.program)
+        episode = self.task.episode or 0
+        while self.play(driver, episode) and self.calls < self.task.calls and self.task.episode is None:
+            episode += 1
+        if driver.close() != 0 and not self.differences:
+            self.differences.append("the driver failed")
+        return self
+
+
+def work(task):
+    """For the pool."""
+    return Cell(task).work()
+
+
+def tasks(args, program):
+    """Calls evenly over groups and heights, the slow heights first."""
+    if args.again:
+        group, height, episode = args.again.split(":")
+        return [Task(group, int(height), 10 ** 9, args.seed, program, int(episode))]
+    pairs = [(group, height) for height in sorted(args.heights, reverse=True) for group in args.groups]
+    shares = [args.count // len(pairs) + (n < args.count % len(pairs)) for n in range(len(pairs))]
+    return [Task(group, height, calls, args.seed, program, None) for (group, height), calls in zip(pairs, shares) if calls]
+
+
+def worked(args):
+    """The cells, worked two at a time; with --first, as far as the first difference."""
+    with tempfile.TemporaryDirectory() as folder, multiprocessing.Pool(2) as pool:
+        done = []
+        for cell in pool.imap(work, tasks(args, wire.build(folder))):
+            done.append(cell)
+            if args.first and cell.differences:
+                break
+        return done
+
+
+def report(cells, groups, heights):
+    """Calls by group and height, and how often each call returned each number."""
+    calls = collections.Counter()
+    reached = collections.Counter()
+    for cell in cells:
+        calls[cell.task.group, cell.task.height] += cell.calls
+        reached += cell.reached
+    print("calls by group, at heights", *heights)
+    for group in groups:
+        print("  %-10s" % group, *["%6d" % calls[group, height] for height in heights])
+    print("  %-10s" % "all", *["%6d" % sum(calls[group, height] for group in groups) for height in heights])
+    print("numbers returned:")
+    for call in wire.CALLS:
+        print("  %-10s" % call, ", ".join("%d: %d" % (number, n) for (name, number), n in sorted(reached.items()) if name == call))
+    return [(call, number) for call, numbers in cases.REACHED.items() for number in numbers if not reached[call, number]]
+
+
+def arguments(args):
+    parser = argparse.ArgumentParser()
+    parser.add_argument("--groups", type=lambda text: text.split(","), default=list(cases.GROUPS))
+    parser.add_argument("--heights", type=lambda text: [int(part) for part in text.split(",")], default=[1, 2, 3, 4, 5, 6])
+    parser.add_argument("--first", action="store_true")
+    parser.add_argument("--again")
+    parser.add_argument("count", type=int, nargs="?", default=10000)
+    parser.add_argument("seed", type=int, nargs="?", default=1)
+    return parser.parse_args(args)
+
+
+def main(args):
+    args = arguments(args)
+    cells = worked(args)
+    missed = report(cells, args.groups, args.heights)
+    differences = [line for cell in cells for line in cell.differences]
+    for line in differences:
+        print("DIFFERS", line)
+    enough = args.groups == list(cases.GROUPS) and len(cells) > 1 and args.count >= cases.ENOUGH
+    if enough and missed:
+        print("NEVER RETURNED", missed)
+    failed = sum(1 for cell in cells if cell.differences) + bool(enough and missed)
+    print("seed %d, %d calls, %d differences" % (args.seed, sum(cell.calls for cell in cells), len(differences)))
+    print("%d passed, %d failed" % (len(cells) + enough - failed, failed))
+    return 1 if failed else 0
+
+
+if __name__ == "__main__":
+    sys.exit(main(sys.argv[1:]))

@@ -1,0 +1,165 @@
+"""Damaged lists and forecasts: each damage takes a hand with a good list and forecast, and harms one of them."""
+import model
+from starts import TOP, cell, some_forecast, some_list, spread
+
+LENGTHS = (0, 64, 192, 8192, 127, 1, 63, 65, 129, 255, 257, 320, 4095, 4097, 6144, 16384)
+
+
+def length(hand):
+    """A length that no height has; the content is the list's as far as it goes, then gaps or anything."""
+    n = hand.rng.choice(LENGTHS)
+    rest = max(0, n - len(hand.list))
+    hand.list = hand.list[:n] + hand.rng.choice(([0] * rest, hand.junk(rest)))
+
+
+def neighbours(hand, apart):
+    """Two slots of neighbouring keys, in one segment or in two; any two where there are no such."""
+    slots = [slot for slot, key in enumerate(hand.list) if key]
+    every = list(zip(slots, slots[1:]))
+    pairs = [pair for pair in every if (pair[0] // model.SEGMENT != pair[1] // model.SEGMENT) == apart] or every
+    return hand.rng.choice((pairs[0], pairs[-1], hand.rng.choice(pairs)))
+
+
+def put(hand, slot, key):
+    hand.list = hand.list[:slot] + [key] + hand.list[slot + 1:]
+
+
+def equal(hand, apart=False):
+    first, second = neighbours(hand, apart)
+    put(hand, *hand.rng.choice(((first, hand.list[second]), (second, hand.list[first]))))
+
+
+def falling(hand, apart=False):
+    first, second = neighbours(hand, apart)
+    keys = hand.list[first], hand.list[second]
+    put(hand, first, keys[1])
+    put(hand, second, keys[0])
+
+
+def equal_apart(hand):
+    equal(hand, True)
+
+
+def falling_apart(hand):
+    falling(hand, True)
+
+
+def gap_within(hand):
+    """A key goes from the middle, and leaves its slot empty."""
+    put(hand, neighbours(hand, False)[0], 0)
+
+
+def after_gap(hand):
+    """The last key of a segment stands later than it should."""
+    _, slot = neighbours(hand, False)
+    end = slot - slot % model.SEGMENT + model.SEGMENT
+    while slot + 1 < end and hand.list[slot + 1]:
+        slot += 1
+    if slot + 1 < end:
+        key = hand.list[slot]
+        put(hand, slot, 0)
+        put(hand, hand.rng.choice((end - 1, hand.rng.randint(slot + 1, end - 1))), key)
+
+
+def too_many(hand):
+    """More keys than half the slots, in good order."""
+    most = model.most_keys(hand.h)
+    m = hand.rng.choice((most + 1, most + 1, most + hand.rng.randint(1, most), 2 * most))
+    hand.list = some_list(hand.rng, spread(hand.rng, m, 2 ** hand.h))
+
+
+ORDER = (equal, falling, equal_apart, falling_apart, gap_within, after_gap)
+LISTS = (length, too_many, length) + ORDER
+
+
+# ---- Forecasts: word 0 is the number used, cell i begins at word 1 + 3i --------------------------------------------------------
+
+def word(hand, place, value):
+    hand.forecast = hand.forecast[:place] + [value] + hand.forecast[place + 1:]
+
+
+def used_cell(hand):
+    """The first word of a used cell: the head, the tail or any."""
+    hand.forecast = some_forecast(hand.rng, hand.h, hand.list, hand.rng.choice((1, 2, model.most_cells(hand.h))))
+    return 1 + 3 * hand.rng.choice((0, hand.forecast[0] - 1, hand.rng.randrange(hand.forecast[0])))
+
+
+def many_used(hand):
+    word(hand, 0, hand.rng.choice((model.most_cells(hand.h) + 1, 12, 13, 2 ** 32, 2 ** 63, TOP)))
+
+
+def many_good(hand):
+    """One cell more than is allowed, each good by itself (height 6 has no room for it)."""
+    P = model.most_cells(hand.h)
+    live = hand.rng.sample(hand.live(), P + 1)
+    good = [cell(hand.rng, hand.h, hand.list, marker) for marker in live][:model.ROOM]
+    hand.forecast = [P + 1] + sum(good, []) + [0] * (3 * (model.ROOM - len(good)))
+
+
+def one_less(hand):
+    """The tail counts as unused, but is not all zeros."""
+    used_cell(hand)
+    word(hand, 0, hand.forecast[0] - 1)
+
+
+def one_more(hand):
+    """An unused cell counts as used; the head, if there is none."""
+    word(hand, 0, hand.forecast[0] + 1)
+
+
+def count(hand):
+    P = model.most_cells(hand.h)
+    word(hand, used_cell(hand) + 2, hand.rng.choice((0, P + 1, P + 1, 255, 2 ** 32 + 1, TOP)))
+
+
+def repeated(hand):
+    """Two cells, both right but for their one marker."""
+    hand.forecast = some_forecast(hand.rng, hand.h, hand.list, model.most_cells(hand.h))
+    used = hand.forecast[0]
+    if used > 1:
+        first, second = hand.rng.sample(range(used), 2)
+        word(hand, 1 + 3 * first, hand.forecast[1 + 3 * second])
+        word(hand, 2 + 3 * first, hand.forecast[2 + 3 * second])
+
+
+def not_live(hand):
+    place = used_cell(hand)
+    word(hand, place, hand.rng.choice((min(TOP, hand.forecast[place] + 1), hand.near_key(), hand.a_key())))
+
+
+def segment(hand):
+    place = used_cell(hand) + 1
+    right = hand.forecast[place]
+    word(hand, place, hand.rng.choice((right + 1, max(right, 1) - 1, right + 2 ** 32, TOP, hand.rng.randrange(2 ** hand.h))))
+
+
+def front_elsewhere(hand):
+    hand.forecast = [1, 0, hand.rng.choice((1, 2, TOP)), 1] + [0] * 33
+
+
+def unused(hand, which):
+    """One word of an unused cell: the first, the last or any."""
+    hand.forecast = some_forecast(hand.rng, hand.h, hand.list, hand.rng.randint(0, model.most_cells(hand.h) - 1))
+    used = hand.forecast[0]
+    word(hand, 1 + 3 * hand.rng.choice((used, 11, hand.rng.randint(used, 11))) + which, hand.rng.choice((1, TOP, hand.one_live())))
+
+
+def unused_marker(hand):
+    unused(hand, 0)
+
+
+def unused_segment(hand):
+    unused(hand, 1)
+
+
+def unused_count(hand):
+    unused(hand, 2)
+
+
+def none(hand):
+    """No damage: as many cells and as high counts as there may be."""
+    hand.forecast = some_forecast(hand.rng, hand.h, hand.list, model.most_cells(hand.h))
+
+
+FORECASTS = (many_used, many_good, one_less, one_more, count, repeated, not_live, segment, front_elsewhere, unused_marker, unused_segment,
+             unused_count, none)

@@ -1,0 +1,83 @@
+/* Makes the calls that standard input asks for, and writes back what each returned and all the memory it was lent, with guards.
+
+   Asked, in words of 64 bits, low byte first: the call (1 to 7, in the order of the header), its number (key, from or allowance),
+   the lengths of the six slices below in elements; then their contents. A slice that the call does not take is left alone.
+   Answered: the word returned; then each slice with GUARD bytes before it and after it, as they now are. */
+#include "ffalwenog.h"
+
+#include <stdio.h>
+#include <stdlib.h>
+
+enum { LIST, FORECAST, REQUESTS, TOTALS, OUTPUT, REPLY, SLICES };
+enum { MAKE = 1, CHECK, LOOKUP, INSERT, DELETE, SCAN, RUN };
+enum { GUARD = 32, MOST = 1 << 20, HEAD = 2 + SLICES };
+
+static const size_t width[SLICES] = {8, 8, 1, 4, 8, 8};
+
+/* Guards and content stand in one piece of memory; the content is aligned as its elements ask, and no better. */
+struct slice {
+    unsigned char *memory, *guarded;
+    void *content;
+    size_t length, size;
+};
+
+static void must(int holds, const char *what)
+{
+    if (!holds) {
+        fprintf(stderr, "driver: %s\n", what);
+        exit(3);
+    }
+}
+
+static void lend(struct slice *s, size_t element, size_t length)
+{
+    must(length <= MOST, "a slice too long");
+    s->length = length;
+    s->size = length * element;
+    s->memory = malloc(s->size + 2 * GUARD + element);
+    must(s->memory != NULL, "no memory");
+    s->guarded = s->memory + element;
+    s->content = s->guarded + GUARD;
+    for (size_t i = 0; i < GUARD; i++)
+        s->guarded[i] = s->guarded[GUARD + s->size + i] = (unsigned char)(0xC0 + i);
+    must(fread(s->content, 1, s->size, stdin) == s->size, "a call cut short");
+}
+
+static uint64_t call(uint64_t ask, uint64_t number, struct slice *s)
+{
+    uint64_t *list = s[LIST].content, *forecast = s[FORECAST].content, *output = s[OUTPUT].content, *reply = s[REPLY].content;
+    size_t n = s[LIST].length, f = s[FORECAST].length, r = s[REPLY].length;
+
+    switch (ask) {
+    case MAKE: return ff_make(list, n, forecast, f);
+    case CHECK: return ff_check(list, n, forecast, f);
+    case LOOKUP: return ff_lookup(list, n, number, reply, r);
+    case INSERT: return ff_insert(list, n, forecast, f, number, reply, r);
+    case DELETE: return ff_delete(list, n, forecast, f, number, reply, r);
+    case SCAN: return ff_scan(list, n, number, output, s[OUTPUT].length, reply, r);
+    case RUN:
+        return ff_run(list, n, forecast, f, s[REQUESTS].content, s[REQUESTS].length, number, s[TOTALS].content, s[TOTALS].length,
+                      reply, r);
+    }
+    must(0, "no such call");
+    return 0;
+}
+
+int main(void)
+{
+    uint64_t head[HEAD];
+    struct slice lent[SLICES];
+
+    while (fread(head, sizeof head, 1, stdin) == 1) {
+        for (int i = 0; i < SLICES; i++)
+            lend(&lent[i], width[i], head[2 + i]);
+        uint64_t returned = call(head[0], head[1], lent);
+        fwrite(&returned, sizeof returned, 1, stdout);
+        for (int i = 0; i < SLICES; i++) {
+            fwrite(lent[i].guarded, 1, lent[i].size + 2 * GUARD, stdout);
+            free(lent[i].memory);
+        }
+        must(fflush(stdout) == 0, "no one reads");
+    }
+    return 0;
+}

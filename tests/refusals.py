@@ -1,0 +1,106 @@
+"""Groups of calls that are refused: damaged lists, damaged forecasts, several faults at once, and slices of wrong sizes."""
+from dataclasses import replace
+
+import damage
+import model
+import oracle
+import wire
+from hand import Hand
+from sequences import packed
+from starts import TOP, spread
+
+EVERY = ("check", "lookup", "insert", "delete", "scan", "run")
+
+
+def keyed(rng, h):
+    """Keys in more than one segment, and neighbours in one of them."""
+    most = model.most_keys(h)
+    counts = spread(rng, rng.choice((most - 4, rng.randint(most // 2, most - 4))), 2 ** h)
+    counts[0] = min(62, counts[0] + 2)
+    counts[-1] = min(62, counts[-1] + 2)
+    return counts, None
+
+
+def brimful(rng, h):
+    """As many keys as there may be."""
+    return spread(rng, model.most_keys(h), 2 ** h), None
+
+
+def some_number(hand, call):
+    """A key that a call may take or refuse, where a scan may begin, or an allowance."""
+    if call == "run":
+        return hand.rng.choice((0, 5, TOP))
+    return hand.rng.choice((0, hand.one_live(), hand.near_key(), hand.a_key()))
+
+
+def every_call(hand, calls=EVERY):
+    """Each of the calls once, on the same list and forecast while they are refused."""
+    for call in hand.rng.sample(calls, len(calls)):
+        records = b"".join(packed(hand.rng.choice(("insert", "delete")), hand.near_key()) for _ in range(3))
+        yield from hand.call(call, some_number(hand, call), requests=records, room=hand.rng.choice((0, 1, 5)))
+
+
+def lists(rng, h, n):
+    hand = Hand(rng, h, keyed)
+    damage.LISTS[(n + h) % len(damage.LISTS)](hand)
+    yield from every_call(hand)
+    yield from hand.call("make")
+    yield from every_call(hand, ("check", "insert"))
+
+
+def forecasts(rng, h, n):
+    hand = Hand(rng, h, keyed)
+    damage.FORECASTS[(2 * n + h) % len(damage.FORECASTS)](hand)
+    yield from every_call(hand, ("check", "insert", "delete", "run", "lookup"))
+    damage.FORECASTS[(2 * n + 1 + h) % len(damage.FORECASTS)](hand)
+    yield from every_call(hand, ("check", "insert", "delete", "run", "scan"))
+
+
+def order(rng, h, n):
+    """Any faults together: the first in the order of testing is the one told."""
+    hand = Hand(rng, h, keyed)
+    if rng.random() < 0.5:
+        rng.choice(damage.FORECASTS)(hand)
+    crowd = rng.random()
+    if crowd < 0.5:
+        damage.too_many(hand)
+    elif crowd < 0.75:
+        hand.list = Hand(rng, h, brimful).list
+    if rng.random() < 0.5:
+        rng.choice(damage.ORDER)(hand)
+    if rng.random() < 0.15:
+        damage.length(hand)
+    yield from every_call(hand)
+
+
+def wrong_sizes(call):
+    """Each slice of this call with the sizes that it must not have."""
+    listed = oracle.LISTED[call]
+    sizes = [("reply", n) for n in sorted({0, listed - 1}) if 0 <= n < listed]
+    if call in oracle.WITH_FORECAST:
+        sizes += [("forecast", n) for n in (36, 38, 0, 1, 36, 38)]
+    if call == "run":
+        sizes += [("totals", n) for n in (3, 5, 0)]
+    return sizes
+
+
+def resized(hand, lent, name, n):
+    """The call with one slice cut or lengthened."""
+    most = 2 ** (8 * (4 if name == "totals" else 8)) - 1
+    longer = list(getattr(lent, name)) + [hand.rng.randint(0, most) for _ in range(n)]
+    return replace(lent, **{name: longer[:n]})
+
+
+def sizes(rng, h, n):
+    """Wrong sizes come before all else, on good lists and on bad ones; longer replies are taken."""
+    hand = Hand(rng, h, keyed)
+    if n % 2:
+        rng.choice(damage.LISTS + damage.FORECASTS)(hand)
+    for call in rng.sample(wire.CALLS, len(wire.CALLS)):
+        lent = hand.lend(call, some_number(hand, call), requests=packed("insert", hand.a_key()), room=3)
+        for name, size in rng.sample(wrong_sizes(call), 2):
+            yield resized(hand, lent, name, size)
+        yield resized(hand, lent, "reply", oracle.LISTED[call] + rng.randint(1, 9))
+
+
+GROUPS = dict(lists=lists, forecasts=forecasts, order=order, sizes=sizes)

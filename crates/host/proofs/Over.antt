@@ -4,6 +4,8 @@ use mathlib.Core.Path.{_≡_, refl, ap, _∙_}
 use mathlib.Core.List.{List, [], _∷_}
 use native.Mathlib.Omega.{arith}
 use lib.ListN.{length, drop, set, drop-of-length-le}
+use lib.Seq.{drop-at}
+use Rattle.host.specs.Calls.{over}
 
 pub over-one : (ws : List ℕ) (a : ℕ) → 1 ≤ length ws → set ws 0 a ≡ a ∷ drop 1 ws
 over-one [] a h = absurd (omega arith)
@@ -21,3 +23,7 @@ over-four (w ∷ x ∷ ws) a b c d h = ap (λ (r : List ℕ). a ∷ b ∷ r) (ov
 -- no word is left beyond
 pub over-all : (ws : List ℕ) (a b c d : ℕ) → length ws ≡ 4 → set (set (set (set ws 0 a) 1 b) 2 c) 3 d ≡ a ∷ b ∷ c ∷ d ∷ []
 over-all ws a b c d h = over-four ws a b c d (omega arith) ∙ ap (λ (r : List ℕ). a ∷ b ∷ c ∷ d ∷ r) (drop-of-length-le ws {i = 4} (omega arith))
+
+-- the words beyond those listed stay
+pub beyond : (ws reply : List ℕ) → drop (length ws) (over ws reply) ≡ drop (length ws) reply
+beyond ws reply = drop-at ws (drop (length ws) reply) (length ws) refl

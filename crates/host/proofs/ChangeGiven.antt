@@ -8,10 +8,10 @@ use Rattle.forecast.specs.declared.Forecast.{Forecast}
 use Rattle.rules.specs.Calls as rules
 use Rattle.list.specs.declared.InsertReply.{InsertReply}
 use Rattle.list.specs.declared.DeleteReply.{DeleteReply}
-use Rattle.list.specs.declared.Told.{Told}
 use Rattle.list.specs.Admits.{InsertAdmits, DeleteAdmits}
 use Rattle.list.specs.Answers.{insertPaper, deletePaper}
-use Rattle.list.specs.Telling.{insertTold, deleteTold}
+use Rattle.rules.specs.Placing.{Answer}
+use Rattle.rules.specs.Runs.{one}
 use Rattle.host.specs.Words.{forecastIn, forecastWords}
 use Rattle.host.specs.Calls.{insert, delete, notForecast, short, Gives}
 use Rattle.host.proofs.Over.{over-one, over-two}
@@ -22,32 +22,35 @@ module _ (list forecast : List ℕ) (key : ℕ) (reply : List ℕ) where
   unfolding insert
   insert-misfit e = misfit (notForecast forecast || short reply 1) _ _ e
 
-  pub insert-given : (F : Forecast) (r : InsertReply) (t : Told) (list' forecast' : List ℕ) → length forecast ≡ 37 → 1 ≤ length reply → F ≡ forecastIn forecast
-      → InsertAdmits list F key r list' → forecast' ≡ forecastWords (r .forecast) → t ≡ insertTold (insertPaper (r .answer))
-      → Gives (insert list forecast key reply) (t .number) (list' ∷ forecast' ∷ set reply 0 (t .first) ∷ [])
+  pub insert-given : (F : Forecast) (r : InsertReply) (n m : ℕ) (list' forecast' : List ℕ) → length forecast ≡ 37 → 1 ≤ length reply → F ≡ forecastIn forecast
+      → InsertAdmits list F key r list' → forecast' ≡ forecastWords (r .forecast) → n ≡ insertPaper (r .answer) .number → m ≡ insertPaper (r .answer) .moves
+      → Gives (insert list forecast key reply) n (list' ∷ forecast' ∷ set reply 0 m ∷ [])
   unfolding insert
-  insert-given F r t list' forecast' l n f a w e =
+  insert-given F r n m list' forecast' l l1 f a w en em =
       let is : rules.insert list F key ≡ rules.insert list (forecastIn forecast) key = ap (λ (G : Forecast). rules.insert list G key) f in
-      let told : t ≡ insertTold (rules.insert list (forecastIn forecast) key .answer) = e ∙ ap insertTold (a .answer ∙ ap (λ (c : rules.Called). c .answer) is) in
+      let answer = a .answer ∙ ap (λ (c : rules.Called). c .answer) is in
       let slots = a .slots-left ∙ ap (λ (c : rules.Called). c .slots) is in
       let words = w ∙ ap forecastWords (a .forecast ∙ ap (λ (c : rules.Called). c .forecast) is) in
-      let said = over-one reply (t .first) n ∙ ap (λ (x : Told). x .first ∷ drop 1 reply) told in
-      fitted (notForecast forecast || short reply 1) _ _ _ _ (neither (notForecast forecast) (short reply 1) (is-forecast forecast l) (is-long reply 1 n))
-      (record { number = ap (λ (x : Told). x .number) told; slices = λ i. slots i ∷ words i ∷ said i ∷ [] })
+      let moves = em ∙ ap (λ (x : Answer). x .moves) answer in
+      let said = over-one reply m l1 ∙ (λ i. moves i ∷ drop 1 reply) in
+      fitted (notForecast forecast || short reply 1) _ _ _ _ (neither (notForecast forecast) (short reply 1) (is-forecast forecast l) (is-long reply 1 l1))
+      (record { number = en ∙ ap (λ (x : Answer). x .number) answer; slices = λ i. slots i ∷ words i ∷ said i ∷ [] })
 
   pub delete-misfit : (notForecast forecast || short reply 2) ≡ true → Gives (delete list forecast key reply) 100 (list ∷ forecast ∷ reply ∷ [])
   unfolding delete
   delete-misfit e = misfit (notForecast forecast || short reply 2) _ _ e
 
-  pub delete-given : (F : Forecast) (r : DeleteReply) (t : Told) (list' forecast' : List ℕ) → length forecast ≡ 37 → 2 ≤ length reply → F ≡ forecastIn forecast
-      → DeleteAdmits list F key r list' → forecast' ≡ forecastWords (r .forecast) → t ≡ deleteTold (deletePaper (r .answer))
-      → Gives (delete list forecast key reply) (t .number) (list' ∷ forecast' ∷ set (set reply 0 (t .first)) 1 (t .second) ∷ [])
+  pub delete-given : (F : Forecast) (r : DeleteReply) (n m p : ℕ) (list' forecast' : List ℕ) → length forecast ≡ 37 → 2 ≤ length reply → F ≡ forecastIn forecast
+      → DeleteAdmits list F key r list' → forecast' ≡ forecastWords (r .forecast) → n ≡ deletePaper (r .answer) .number → m ≡ deletePaper (r .answer) .moves → p ≡ one (deletePaper (r .answer) .sparse)
+      → Gives (delete list forecast key reply) n (list' ∷ forecast' ∷ set (set reply 0 m) 1 p ∷ [])
   unfolding delete
-  delete-given F r t list' forecast' l n f a w e =
+  delete-given F r n m p list' forecast' l l1 f a w en em ep =
       let is : rules.delete list F key ≡ rules.delete list (forecastIn forecast) key = ap (λ (G : Forecast). rules.delete list G key) f in
-      let told : t ≡ deleteTold (rules.delete list (forecastIn forecast) key .answer) = e ∙ ap deleteTold (a .answer ∙ ap (λ (c : rules.Called). c .answer) is) in
+      let answer = a .answer ∙ ap (λ (c : rules.Called). c .answer) is in
       let slots = a .slots-left ∙ ap (λ (c : rules.Called). c .slots) is in
       let words = w ∙ ap forecastWords (a .forecast ∙ ap (λ (c : rules.Called). c .forecast) is) in
-      let said = over-two reply (t .first) (t .second) n ∙ ap (λ (x : Told). x .first ∷ x .second ∷ drop 2 reply) told in
-      fitted (notForecast forecast || short reply 2) _ _ _ _ (neither (notForecast forecast) (short reply 2) (is-forecast forecast l) (is-long reply 2 n))
-      (record { number = ap (λ (x : Told). x .number) told; slices = λ i. slots i ∷ words i ∷ said i ∷ [] })
+      let moves = em ∙ ap (λ (x : Answer). x .moves) answer in
+      let sparse = ep ∙ ap (λ (x : Answer). one (x .sparse)) answer in
+      let said = over-two reply m p l1 ∙ (λ i. moves i ∷ sparse i ∷ drop 2 reply) in
+      fitted (notForecast forecast || short reply 2) _ _ _ _ (neither (notForecast forecast) (short reply 2) (is-forecast forecast l) (is-long reply 2 l1))
+      (record { number = en ∙ ap (λ (x : Answer). x .number) answer; slices = λ i. slots i ∷ words i ∷ said i ∷ [] })

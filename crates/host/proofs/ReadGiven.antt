@@ -7,15 +7,13 @@ use lib.ListN.{length, drop, set}
 use Rattle.forecast.specs.declared.Forecast.{Forecast}
 use Rattle.rules.specs.Checks as checks
 use Rattle.rules.specs.Runs.{one}
-use Rattle.rules.specs.Calls as rules
+use Rattle.rules.specs.Looking.{Found}
 use Rattle.list.specs.declared.MakeReply.{MakeReply}
 use Rattle.list.specs.declared.CheckAnswer.{CheckAnswer}
 use Rattle.list.specs.declared.LookupAnswer.{LookupAnswer}
 use Rattle.list.specs.declared.ScanAnswer.{ScanAnswer}
-use Rattle.list.specs.declared.Told.{Told}
 use Rattle.list.specs.Admits.{MakeAdmits, CheckAdmits, LookupAdmits, ScanAdmits}
 use Rattle.list.specs.Answers.{makeNumber, checkNumber, lookupPaper, scanPaper}
-use Rattle.list.specs.Telling.{told, numberTold, lookupTold, scanTold}
 use Rattle.host.specs.Words.{forecastIn, forecastWords}
 use Rattle.host.specs.Calls.{make, check, lookup, scan, notForecast, short, Gives}
 use Rattle.host.proofs.Over.{over-two}
@@ -26,48 +24,49 @@ module _ (list forecast : List ℕ) where
   unfolding make
   make-misfit e = misfit (notForecast forecast) _ _ e
 
-  pub make-given : (r : MakeReply) (t : Told) (list' forecast' : List ℕ) → length forecast ≡ 37 → MakeAdmits list r list' → forecast' ≡ forecastWords (r .forecast)
-      → t ≡ numberTold (makeNumber (r .answer)) → Gives (make list forecast) (t .number) (list' ∷ forecast' ∷ [])
+  pub make-given : (r : MakeReply) (n : ℕ) (list' forecast' : List ℕ) → length forecast ≡ 37 → MakeAdmits list r list' → forecast' ≡ forecastWords (r .forecast)
+      → n ≡ makeNumber (r .answer) → Gives (make list forecast) n (list' ∷ forecast' ∷ [])
   unfolding make
-  make-given r t list' forecast' l a w e =
+  make-given r n list' forecast' l a w e =
       let words = w ∙ ap forecastWords (a .forecast) in
       fitted (notForecast forecast) _ _ _ _ (is-forecast forecast l)
-      (record { number = ap (λ (x : Told). x .number) e ∙ a .answer; slices = λ i. a .slots-left i ∷ words i ∷ [] })
+      (record { number = e ∙ a .answer; slices = λ i. a .slots-left i ∷ words i ∷ [] })
 
   pub check-misfit : notForecast forecast ≡ true → Gives (check list forecast) 100 []
   unfolding check
   check-misfit e = misfit (notForecast forecast) _ _ e
 
-  pub check-given : (F : Forecast) (r : CheckAnswer) (t : Told) → length forecast ≡ 37 → F ≡ forecastIn forecast → CheckAdmits list F r → t ≡ numberTold (checkNumber r)
-      → Gives (check list forecast) (t .number) []
+  pub check-given : (F : Forecast) (r : CheckAnswer) (n : ℕ) → length forecast ≡ 37 → F ≡ forecastIn forecast → CheckAdmits list F r → n ≡ checkNumber r
+      → Gives (check list forecast) n []
   unfolding check
-  check-given F r t l f a e =
+  check-given F r n l f a e =
       fitted (notForecast forecast) _ _ _ _ (is-forecast forecast l)
-      (record { number = ap (λ (x : Told). x .number) e ∙ a .answer ∙ ap (checks.check list) f; slices = refl })
+      (record { number = e ∙ a .answer ∙ ap (checks.check list) f; slices = refl })
 
 module _ (list : List ℕ) (key : ℕ) (reply : List ℕ) where
   pub lookup-misfit : short reply 2 ≡ true → Gives (lookup list key reply) 100 (reply ∷ [])
   unfolding lookup
   lookup-misfit e = misfit (short reply 2) _ _ e
 
-  pub lookup-given : (r : LookupAnswer) (t : Told) → 2 ≤ length reply → LookupAdmits list key r → t ≡ lookupTold (lookupPaper r)
-      → Gives (lookup list key reply) (t .number) (set (set reply 0 (t .first)) 1 (t .second) ∷ [])
+  pub lookup-given : (r : LookupAnswer) (n p s : ℕ) → 2 ≤ length reply → LookupAdmits list key r → n ≡ lookupPaper r .number → p ≡ one (lookupPaper r .present) → s ≡ lookupPaper r .segment
+      → Gives (lookup list key reply) n (set (set reply 0 p) 1 s ∷ [])
   unfolding lookup
-  lookup-given r t n a e =
-      let is : t ≡ lookupTold (rules.lookup list key) = e ∙ ap lookupTold (a .answer) in
-      let said = over-two reply (t .first) (t .second) n ∙ ap (λ (x : Told). x .first ∷ x .second ∷ drop 2 reply) is in
-      fitted (short reply 2) _ _ _ _ (is-long reply 2 n) (record { number = ap (λ (x : Told). x .number) is; slices = λ i. said i ∷ [] })
+  lookup-given r n p s l a en ep es =
+      let present = ep ∙ ap (λ (f : Found). one (f .present)) (a .answer) in
+      let segment = es ∙ ap (λ (f : Found). f .segment) (a .answer) in
+      let said = over-two reply p s l ∙ (λ i. present i ∷ segment i ∷ drop 2 reply) in
+      fitted (short reply 2) _ _ _ _ (is-long reply 2 l) (record { number = en ∙ ap (λ (f : Found). f .number) (a .answer); slices = λ i. said i ∷ [] })
 
 module _ (list : List ℕ) (from : ℕ) (output reply : List ℕ) where
   pub scan-misfit : short reply 2 ≡ true → Gives (scan list from output reply) 100 (output ∷ reply ∷ [])
   unfolding scan
   scan-misfit e = misfit (short reply 2) _ _ e
 
-  pub scan-given : (r : ScanAnswer) (t : Told) (output' : List ℕ) → 2 ≤ length reply → ScanAdmits list from output r output' → t ≡ scanTold (scanPaper r)
-      → Gives (scan list from output reply) (t .number) (output' ∷ set (set reply 0 (t .first)) 1 (t .second) ∷ [])
+  pub scan-given : (r : ScanAnswer) (n w m : ℕ) (output' : List ℕ) → 2 ≤ length reply → ScanAdmits list from output r output' → n ≡ scanPaper r .number → w ≡ scanPaper r .written
+      → m ≡ one (scanPaper r .more) → Gives (scan list from output reply) n (output' ∷ set (set reply 0 w) 1 m ∷ [])
   unfolding scan
-  scan-given r t output' n a e =
-      let s = rules.scan list from output in
-      let is : t ≡ told (s .number) (s .written) (one (s .more)) = e ∙ (λ i. told (a .number i) (a .written i) (one (a .more i))) in
-      let said = over-two reply (t .first) (t .second) n ∙ ap (λ (x : Told). x .first ∷ x .second ∷ drop 2 reply) is in
-      fitted (short reply 2) _ _ _ _ (is-long reply 2 n) (record { number = ap (λ (x : Told). x .number) is; slices = λ i. a .output i ∷ said i ∷ [] })
+  scan-given r n w m output' l a en ew em =
+      let written = ew ∙ a .written in
+      let more = em ∙ ap one (a .more) in
+      let said = over-two reply w m l ∙ (λ i. written i ∷ more i ∷ drop 2 reply) in
+      fitted (short reply 2) _ _ _ _ (is-long reply 2 l) (record { number = en ∙ a .number; slices = λ i. a .output i ∷ said i ∷ [] })

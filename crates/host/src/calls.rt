@@ -15,11 +15,11 @@ pub extern "C" fn ff_make(list: &mut [u64], forecast: &mut [u64]) -> u64
         return MISFIT;
     }
     let made = list::calls::make(list);
+    let answer = made.answer;
+    let told = list::telling::make_number(answer);
     let empty = made.forecast;
     words::write_forecast(empty, forecast);
-    let answer = made.answer;
-    let said = list::telling::tell_make(answer);
-    said.number
+    told
 }
 
 // Tests refusals 1 to 4.
@@ -31,8 +31,7 @@ pub extern "C" fn ff_check(list: &[u64], forecast: &[u64]) -> u64
         return MISFIT;
     }
     let given = words::read_forecast(forecast);
-    let checked = list::telling::tell_check(list::calls::check(list, given));
-    checked.number
+    list::telling::check_number(list::calls::check(list, given))
 }
 
 // Whether a key is live, and where.
@@ -43,10 +42,13 @@ pub extern "C" fn ff_lookup(list: &[u64], key: u64, reply: &mut [u64]) -> u64
     if reply.len() < 2 {
         return MISFIT;
     }
-    let found = list::telling::tell_lookup(list::calls::lookup(list, key));
-    reply[0] = found.first;
-    reply[1] = found.second;
-    found.number
+    let found = list::calls::lookup(list, key);
+    let looked = list::telling::lookup_number(found);
+    let present = list::telling::lookup_present(found);
+    let segment = list::telling::lookup_segment(found);
+    reply[0] = present;
+    reply[1] = segment;
+    looked
 }
 
 // The live keys above `from`, rising.
@@ -57,8 +59,11 @@ pub extern "C" fn ff_scan(list: &[u64], from: u64, output: &mut [u64], reply: &m
     if reply.len() < 2 {
         return MISFIT;
     }
-    let scanned = list::telling::tell_scan(list::calls::scan(list, from, output));
-    reply[0] = scanned.first;
-    reply[1] = scanned.second;
-    scanned.number
+    let scanned = list::calls::scan(list, from, output);
+    let number = list::telling::scan_number(scanned);
+    let written = list::telling::scan_written(scanned);
+    let more = list::telling::scan_more(scanned);
+    reply[0] = written;
+    reply[1] = more;
+    number
 }

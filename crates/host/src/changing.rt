@@ -24,12 +24,13 @@ pub extern "C" fn ff_insert(
     }
     let given = words::read_forecast(forecast);
     let done = list::changing::insert(list, given, key);
+    let answer = done.answer;
+    let number = list::telling::insert_number(answer);
+    let moves = list::telling::insert_moves(answer);
     let noted = done.forecast;
     words::write_forecast(noted, forecast);
-    let answer = done.answer;
-    let inserted = list::telling::tell_insert(answer);
-    reply[0] = inserted.first;
-    inserted.number
+    reply[0] = moves;
+    number
 }
 
 // Takes a live key out.
@@ -50,11 +51,13 @@ pub extern "C" fn ff_delete(
     }
     let given = words::read_forecast(forecast);
     let done = list::changing::delete(list, given, key);
+    let answer = done.answer;
+    let told = list::telling::delete_number(answer);
+    let moved = list::telling::delete_moves(answer);
+    let sparse = list::telling::delete_sparse(answer);
     let dropped = done.forecast;
     words::write_forecast(dropped, forecast);
-    let answer = done.answer;
-    let deleted = list::telling::tell_delete(answer);
-    reply[0] = deleted.first;
-    reply[1] = deleted.second;
-    deleted.number
+    reply[0] = moved;
+    reply[1] = sparse;
+    told
 }

@@ -3,7 +3,7 @@ use mathlib.Core.Path.{_≡_, refl, sym, ap, _∙_}
 use mathlib.Core.Bool.{true, false}
 use mathlib.Core.Logic.{_≢_}
 use mathlib.Core.List.{List, []}
-use Prim.Native.Nat.{ℕ, _≤_}
+use Prim.Native.Nat.{ℕ, _-_, _≤_, _<_}
 use native.Mathlib.Omega.{arith}
 use borrow.Author.Tests.{le-ltb}
 use lib.Dec.{T}
@@ -15,9 +15,10 @@ use Rattle.slots.specs.Shown.{Located}
 use Rattle.slots.proofs.Keys.{member→mem}
 use Rattle.slots.proofs.Seats.{seat-live}
 use Rattle.forecast.specs.declared.Forecast.{Forecast}
-use Rattle.forecast.specs.Cells.{usedCells}
+use Rattle.forecast.specs.Cells.{usedCells, forecastOf}
 use Rattle.forecast.specs.Steps.{dropped}
 use Rattle.forecast.specs.Held.{Became}
+use Rattle.forecast.proofs.Became.{is-became, dropped-few}
 use Rattle.rules.specs.declared.Request.the-variants.{Delete}
 use Rattle.rules.specs.Shares.{shares}
 use Rattle.rules.specs.Placing.{deleteLevel}
@@ -26,10 +27,11 @@ use Rattle.rules.specs.Calls.{roomOf}
 use Rattle.rules.proofs.Table.{ends}
 use Rattle.rules.proofs.SweptWindow.{length-cut-in}
 use Rattle.rules.proofs.OutcomeCases.{outcome-delete-zero, outcome-delete-absent}
-use Rattle.list.specs.declared.Effect.the-variants.{KeyZero, KeyAbsent}
+use Rattle.list.specs.declared.Effect.the-variants.{Over, KeyZero, KeyAbsent}
 use Rattle.list.specs.Stepped.{Valid, Deleting, Unswept, idle, Steps}
-use Rattle.list.proofs.FromValid.{height-valid, shows-valid}
+use Rattle.list.proofs.FromValid.{height-valid, shows-valid, cells-valid}
 use Rattle.list.proofs.StepCases.{step-refused}
+use Rattle.list.proofs.ShiftedOut.{out-bounds, shift-out-over}
 
 module _ (left y : ℕ) (slots : List ℕ) (F : Forecast) (h n : ℕ) (v : Valid slots F h n) where
   -- key 0
@@ -60,3 +62,14 @@ module _ (left y : ℕ) (slots : List ℕ) (F : Forecast) (h n : ℕ) (v : Valid
           let r = height-valid slots F h n v in
           rw (le-ltb (length (cut y (getD (segmentsOf slots) (segmentOf (segmentsOf slots) y) []))) (shares h .low 0)
           (omega (arith, ends h (r .0) (r .1) .1, length-cut-in y (segmentsOf slots) (shows-valid slots F h n v .listed) (member→mem y (keys (segmentsOf slots)) l)))) refl
+
+      -- the forecast without its cell
+      without-cell : Deleting slots F (forecastOf (dropped y (usedCells F))) h n y p
+      without-cell = deleting _ (is-became _ (dropped-few 12 y (usedCells F) (cells-valid slots F h n v)))
+
+      pub delete-under : p .at < p .held
+      delete-under = out-bounds slots F _ h n y p without-cell .2
+
+      -- where no window is swept, its moves are over what is left
+      pub delete-over : Unswept slots h y → left < p .held - p .at - 1 → Steps left (Delete y) slots F (idle Over F n) slots
+      delete-over u l = shift-out-over slots F _ h n y p without-cell u left l

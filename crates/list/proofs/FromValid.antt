@@ -68,6 +68,9 @@ module _ (slots : List ℕ) (F : Forecast) (h n : ℕ) (v : Valid slots F h n) w
   pub capacity-valid : capacity (sharesOf slots) ≡ length slots / 2
   capacity-valid = capacity-passed slots list-valid
 
-  -- the forecast is tidy
+  -- the forecast has room for its cells, and is tidy
+  pub cells-valid : length (usedCells F) ≤ 12
+  cells-valid = omega (arith, good-valid .ruled .few, passed-valid .to)
+
   pub tidy-valid : Roomy F → Tidy F
-  tidy-valid r = subst Tidy (forecast-shown slots F (v .passes) r) (is-became (usedCells F) (omega (arith, good-valid .ruled .few, passed-valid .to)) .tidy)
+  tidy-valid r = subst Tidy (forecast-shown slots F (v .passes) r) (is-became (usedCells F) cells-valid .tidy)

@@ -1,9 +1,9 @@
 -- A step of an insert, by its tests: each refusal, and what is known when there is none.
-use mathlib.Core.Path.{_≡_, sym, ap₂, _∙_, subst}
+use mathlib.Core.Path.{_≡_, refl, sym, ap₂, _∙_, subst}
 use mathlib.Core.Bool.{true, false, not}
 use mathlib.Core.Logic.{_≢_}
 use mathlib.Core.List.{List}
-use Prim.Native.Nat.{ℕ, _+_, _/_, _≤_, _<_}
+use Prim.Native.Nat.{ℕ, _+_, _-_, _/_, _≤_, _<_}
 use native.Mathlib.Omega.{arith}
 use lib.Dec.{T}
 use lib.ListN.{length}
@@ -14,17 +14,19 @@ use Rattle.slots.specs.Shown.{Located}
 use Rattle.slots.proofs.Seats.{seat-free}
 use Rattle.forecast.specs.declared.Cell.{Cell}
 use Rattle.forecast.specs.declared.Forecast.{Forecast}
-use Rattle.forecast.specs.Cells.{usedCells}
+use Rattle.forecast.specs.Cells.{usedCells, forecastOf}
 use Rattle.forecast.specs.Steps.{noted}
 use Rattle.forecast.specs.Held.{Became}
+use Rattle.forecast.proofs.Became.{is-became, noted-few}
 use Rattle.rules.specs.declared.Request.the-variants.{Insert}
 use Rattle.rules.specs.Checks.{sharesOf}
 use Rattle.rules.specs.Calls.{roomOf}
 use Rattle.rules.proofs.OutcomeCases.{outcome-insert-zero, outcome-insert-present, outcome-insert-full}
-use Rattle.list.specs.declared.Effect.the-variants.{KeyZero, KeyPresent, Full}
+use Rattle.list.specs.declared.Effect.the-variants.{Over, KeyZero, KeyPresent, Full}
 use Rattle.list.specs.Stepped.{Valid, Inserting, idle, Steps}
-use Rattle.list.proofs.FromValid.{keys-valid, capacity-valid}
+use Rattle.list.proofs.FromValid.{height-valid, keys-valid, capacity-valid, cells-valid}
 use Rattle.list.proofs.StepCases.{step-refused}
+use Rattle.list.proofs.ShiftedIn.{shift-in-over}
 
 module _ (left y : ℕ) (slots : List ℕ) (F : Forecast) (h n : ℕ) (v : Valid slots F h n) where
   -- key 0
@@ -59,3 +61,10 @@ module _ (left y : ℕ) (slots : List ℕ) (F : Forecast) (h n : ℕ) (v : Valid
         place = at;
         after = subst (λ (cs : List Cell). Became cs N) (ap₂ (λ (x s : ℕ). noted (6 + h) x s (usedCells F)) e (at .segment ∙ seat-free y (segmentsOf slots) fresh-place)) b;
       }
+
+      -- where its segment has room, its moves are over what is left
+      pub insert-over : n < length slots / 2 → p .held < 64 → left ≤ p .held - p .at → Steps left (Insert y) slots F (idle Over F n) slots
+      insert-over c fits l =
+          let cs : List Cell = noted (6 + h) (predecessor y (segmentsOf slots)) (p .segment) (usedCells F) in
+          let few : length cs ≤ 12 = noted-few 12 (6 + h) _ (p .segment) (usedCells F) (cells-valid slots F h n v) (omega (arith, height-valid slots F h n v)) in
+          shift-in-over slots F (forecastOf cs) h n y p (inserting c _ refl (forecastOf cs) (is-became cs few)) fits left (omega arith)

@@ -21,4 +21,3 @@ pub mod Above
 pub mod Papers
 pub mod OneOutcome
 pub mod Sums
-pub mod ToldOf

@@ -5,4 +5,3 @@ pub mod Sweeps
 pub mod Stepped
 pub mod Changes
 pub mod Scans
-pub mod Telling

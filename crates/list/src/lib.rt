@@ -96,18 +96,12 @@ pub enum Effect {
 }
 
 // That, with the forecast then, the moves, whether a window was swept, whether the list is sparse, and the number of its keys then.
+// The forecast stands first, so that the compiler copies it less often.
 pub struct Step {
-    pub effect: Effect,
     pub forecast: Forecast,
+    pub effect: Effect,
     pub moves: u64,
     pub swept: bool,
     pub sparse: bool,
     pub keys: usize,
-}
-
-// What an answer tells in numbers: the paper's number, then its values in order (yes is 1, no is 0), and 0 where it has no more.
-pub struct Told {
-    pub number: u64,
-    pub first: u64,
-    pub second: u64,
 }

@@ -71,10 +71,14 @@ pub fn resow_out(
 {
     let segment = place.segment;
     let held = place.held;
+    let at = place.at;
     let mut counts = [0; 64];
     let found = sharing::climbing::climb(list, h, segment, held, held - 1, &mut counts);
     let level = found.level;
     if level == 0 {
+        if left < (held - at - 1) as u64 {
+            return shifting::nothing(Effect::Over, forecast, keys);
+        }
         return shifting::shift_out(list, forecast, dropped, key, place, h, keys, left);
     }
     let moves = found.keys as u64;

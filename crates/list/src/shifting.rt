@@ -1,6 +1,6 @@
 // Steps within one segment: a key put in where it has room, or taken out.
 ghost use mathlib.Core.Path.{_≡_};
-ghost use Prim.Native.Nat.{_+_, _*_, _≤_, _<_};
+ghost use Prim.Native.Nat.{_+_, _-_, _*_, _≤_, _<_};
 ghost use Rattle.rules.specs.declared.Request.{Request};
 ghost use Rattle.list.specs.Stepped.{Inserting, Deleting, Unswept, Steps, idle};
 use crate::Effect;
@@ -24,7 +24,7 @@ pub fn nothing(effect: Effect, forecast: Forecast, keys: usize) -> Step
     }
 }
 
-// The segment has room.
+// The segment has room, and the moves are within what is left. `forecast`, the one before, is named in the contract alone.
 pub fn shift_in(
     list: &mut [u64],
     forecast: Forecast,
@@ -35,7 +35,7 @@ pub fn shift_in(
     keys: usize,
     left: u64,
 ) -> Step
-    requires { ⌜ Inserting (now list) forecast noted h keys key place × (place .held < 64) ⌝ }
+    requires { ⌜ Inserting (now list) forecast noted h keys key place × (place .held < 64) × (place .held - place .at + 1 ≤ left) ⌝ }
     ensures { λ r. ⌜ Steps left (Request.Insert key) (now (list .entry)) forecast r (now (list .exit)) ⌝ }
 {
     let held = place.held;
@@ -44,9 +44,6 @@ pub fn shift_in(
     let a = 64 * segment;
     let e = a + 64;
     let moves = (held - at + 1) as u64;
-    if left < moves {
-        return nothing(Effect::Over, forecast, keys);
-    }
     slots::movement::open_gap(&mut list[a..e], held, at, key);
     Step {
         effect: Effect::Done,
@@ -58,7 +55,8 @@ pub fn shift_in(
     }
 }
 
-// A live key is taken out, and the others of its segment close up. Asked for where no window is swept.
+// A live key is taken out, and the others of its segment close up. Asked for where no window is swept and the moves are within what is
+// left. `forecast`, the one before, is named in the contract alone.
 pub fn shift_out(
     list: &mut [u64],
     forecast: Forecast,
@@ -69,7 +67,7 @@ pub fn shift_out(
     keys: usize,
     left: u64,
 ) -> Step
-    requires { ⌜ Deleting (now list) forecast dropped h keys key place × Unswept (now list) h key ⌝ }
+    requires { ⌜ Deleting (now list) forecast dropped h keys key place × Unswept (now list) h key × (place .held - place .at - 1 ≤ left) ⌝ }
     ensures { λ r. ⌜ Steps left (Request.Delete key) (now (list .entry)) forecast r (now (list .exit)) ⌝ }
 {
     let held = place.held;
@@ -78,9 +76,6 @@ pub fn shift_out(
     let a = 64 * segment;
     let e = a + 64;
     let moves = (held - at - 1) as u64;
-    if left < moves {
-        return nothing(Effect::Over, forecast, keys);
-    }
     slots::movement::close_gap(&mut list[a..e], held, at);
     Step {
         effect: Effect::Done,

@@ -51,6 +51,14 @@ pub fn step_insert(
     if list.len() / 2 <= keys {
         return shifting::nothing(Effect::Full, forecast, keys);
     }
+    let held = place.held;
+    let at = place.at;
+    // A shift's moves follow from the place: tested before noting, only one forecast goes on.
+    if held < 64 {
+        if left <= (held - at) as u64 {
+            return shifting::nothing(Effect::Over, forecast, keys);
+        }
+    }
     let before = key_before(list, place, key);
     let segment = place.segment;
     let noted = forecast.note_insert(6 + h, before, segment);
@@ -77,6 +85,14 @@ pub fn step_delete(
     let place = slots::finding::locate(list, key);
     if !place.present {
         return shifting::nothing(Effect::KeyAbsent, forecast, keys);
+    }
+    let held = place.held;
+    let at = place.at;
+    // As for an insert: tested before the cell is dropped.
+    if 8 <= held {
+        if left < (held - at - 1) as u64 {
+            return shifting::nothing(Effect::Over, forecast, keys);
+        }
     }
     let dropped = forecast.drop_marker(key);
     if 8 <= place.held {

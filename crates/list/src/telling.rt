@@ -1,102 +1,186 @@
-// What each answer tells in numbers.
+// What each answer tells in numbers: the paper's number, and each of its values (yes is 1, no is 0).
 ghost use mathlib.Core.Path.{_≡_};
+ghost use Rattle.rules.specs.Runs.{one};
 ghost use Rattle.list.specs.Answers.{makeNumber, checkNumber, lookupPaper, scanPaper, insertPaper, deletePaper};
-ghost use Rattle.list.specs.Telling.{numberTold, lookupTold, scanTold, insertTold, deleteTold};
-ghost use Rattle.list.specs.Telling as telling;
 use crate::CheckAnswer;
 use crate::DeleteAnswer;
 use crate::InsertAnswer;
 use crate::LookupAnswer;
 use crate::MakeAnswer;
 use crate::ScanAnswer;
-use crate::Told;
 
-fn told(number: u64, first: u64, second: u64) -> Told
-    ensures { λ r. ⌜ r ≡ telling.told number first second ⌝ }
+pub fn make_number(answer: MakeAnswer) -> u64
+    ensures { λ r. ⌜ r ≡ makeNumber answer ⌝ }
 {
-    Told {
-        number,
-        first,
-        second,
+    match answer {
+        MakeAnswer::WrongLength => 1,
+        MakeAnswer::Made => 0,
     }
 }
 
-pub fn tell_make(answer: MakeAnswer) -> Told
-    ensures { λ r. ⌜ r ≡ numberTold (makeNumber answer) ⌝ }
+pub fn check_number(answer: CheckAnswer) -> u64
+    ensures { λ r. ⌜ r ≡ checkNumber answer ⌝ }
 {
     match answer {
-        MakeAnswer::WrongLength => told(1, 0, 0),
-        MakeAnswer::Made => told(0, 0, 0),
+        CheckAnswer::WrongLength => 1,
+        CheckAnswer::WrongOrder => 2,
+        CheckAnswer::TooManyKeys => 3,
+        CheckAnswer::WrongForecast => 4,
+        CheckAnswer::Passed => 0,
     }
 }
 
-pub fn tell_check(answer: CheckAnswer) -> Told
-    ensures { λ r. ⌜ r ≡ numberTold (checkNumber answer) ⌝ }
+pub fn lookup_number(answer: LookupAnswer) -> u64
+    ensures { λ r. ⌜ r ≡ lookupPaper answer .number ⌝ }
 {
     match answer {
-        CheckAnswer::WrongLength => told(1, 0, 0),
-        CheckAnswer::WrongOrder => told(2, 0, 0),
-        CheckAnswer::TooManyKeys => told(3, 0, 0),
-        CheckAnswer::WrongForecast => told(4, 0, 0),
-        CheckAnswer::Passed => told(0, 0, 0),
+        LookupAnswer::WrongLength => 1,
+        LookupAnswer::WrongOrder => 2,
+        LookupAnswer::TooManyKeys => 3,
+        LookupAnswer::KeyZero => 5,
+        LookupAnswer::Present(_) => 0,
+        LookupAnswer::Absent => 0,
     }
 }
 
-// A lookup's values: whether the key is present, and its segment.
-pub fn tell_lookup(answer: LookupAnswer) -> Told
-    ensures { λ r. ⌜ r ≡ lookupTold (lookupPaper answer) ⌝ }
+// Whether the key is live.
+pub fn lookup_present(answer: LookupAnswer) -> u64
+    ensures { λ r. ⌜ r ≡ one (lookupPaper answer .present) ⌝ }
 {
     match answer {
-        LookupAnswer::WrongLength => told(1, 0, 0),
-        LookupAnswer::WrongOrder => told(2, 0, 0),
-        LookupAnswer::TooManyKeys => told(3, 0, 0),
-        LookupAnswer::KeyZero => told(5, 0, 0),
-        LookupAnswer::Present(s) => told(0, 1, s as u64),
-        LookupAnswer::Absent => told(0, 0, 0),
+        LookupAnswer::WrongLength => 0,
+        LookupAnswer::WrongOrder => 0,
+        LookupAnswer::TooManyKeys => 0,
+        LookupAnswer::KeyZero => 0,
+        LookupAnswer::Present(_) => 1,
+        LookupAnswer::Absent => 0,
     }
 }
 
-// A scan's values: the keys written, and whether more remain.
-pub fn tell_scan(answer: ScanAnswer) -> Told
-    ensures { λ r. ⌜ r ≡ scanTold (scanPaper answer) ⌝ }
+// Its segment.
+pub fn lookup_segment(answer: LookupAnswer) -> u64
+    ensures { λ r. ⌜ r ≡ lookupPaper answer .segment ⌝ }
 {
     match answer {
-        ScanAnswer::WrongLength => told(1, 0, 0),
-        ScanAnswer::WrongOrder => told(2, 0, 0),
-        ScanAnswer::TooManyKeys => told(3, 0, 0),
-        ScanAnswer::Ended(n) => told(0, n as u64, 0),
-        ScanAnswer::More(n) => told(0, n as u64, 1),
+        LookupAnswer::WrongLength => 0,
+        LookupAnswer::WrongOrder => 0,
+        LookupAnswer::TooManyKeys => 0,
+        LookupAnswer::KeyZero => 0,
+        LookupAnswer::Present(s) => s as u64,
+        LookupAnswer::Absent => 0,
     }
 }
 
-// An insert's value: its moves.
-pub fn tell_insert(answer: InsertAnswer) -> Told
-    ensures { λ r. ⌜ r ≡ insertTold (insertPaper answer) ⌝ }
+pub fn scan_number(answer: ScanAnswer) -> u64
+    ensures { λ r. ⌜ r ≡ scanPaper answer .number ⌝ }
 {
     match answer {
-        InsertAnswer::WrongLength => told(1, 0, 0),
-        InsertAnswer::WrongOrder => told(2, 0, 0),
-        InsertAnswer::TooManyKeys => told(3, 0, 0),
-        InsertAnswer::WrongForecast => told(4, 0, 0),
-        InsertAnswer::KeyZero => told(5, 0, 0),
-        InsertAnswer::KeyPresent => told(6, 0, 0),
-        InsertAnswer::Full => told(8, 0, 0),
-        InsertAnswer::Inserted(n) => told(0, n, 0),
+        ScanAnswer::WrongLength => 1,
+        ScanAnswer::WrongOrder => 2,
+        ScanAnswer::TooManyKeys => 3,
+        ScanAnswer::Ended(_) => 0,
+        ScanAnswer::More(_) => 0,
     }
 }
 
-// A delete's values: its moves, and whether the list is sparse then.
-pub fn tell_delete(answer: DeleteAnswer) -> Told
-    ensures { λ r. ⌜ r ≡ deleteTold (deletePaper answer) ⌝ }
+// The keys written.
+pub fn scan_written(answer: ScanAnswer) -> u64
+    ensures { λ r. ⌜ r ≡ scanPaper answer .written ⌝ }
 {
     match answer {
-        DeleteAnswer::WrongLength => told(1, 0, 0),
-        DeleteAnswer::WrongOrder => told(2, 0, 0),
-        DeleteAnswer::TooManyKeys => told(3, 0, 0),
-        DeleteAnswer::WrongForecast => told(4, 0, 0),
-        DeleteAnswer::KeyZero => told(5, 0, 0),
-        DeleteAnswer::KeyAbsent => told(7, 0, 0),
-        DeleteAnswer::Deleted(n) => told(0, n, 0),
-        DeleteAnswer::DeletedSparse(n) => told(0, n, 1),
+        ScanAnswer::WrongLength => 0,
+        ScanAnswer::WrongOrder => 0,
+        ScanAnswer::TooManyKeys => 0,
+        ScanAnswer::Ended(n) => n as u64,
+        ScanAnswer::More(n) => n as u64,
+    }
+}
+
+// Whether more remain.
+pub fn scan_more(answer: ScanAnswer) -> u64
+    ensures { λ r. ⌜ r ≡ one (scanPaper answer .more) ⌝ }
+{
+    match answer {
+        ScanAnswer::WrongLength => 0,
+        ScanAnswer::WrongOrder => 0,
+        ScanAnswer::TooManyKeys => 0,
+        ScanAnswer::Ended(_) => 0,
+        ScanAnswer::More(_) => 1,
+    }
+}
+
+pub fn insert_number(answer: InsertAnswer) -> u64
+    ensures { λ r. ⌜ r ≡ insertPaper answer .number ⌝ }
+{
+    match answer {
+        InsertAnswer::WrongLength => 1,
+        InsertAnswer::WrongOrder => 2,
+        InsertAnswer::TooManyKeys => 3,
+        InsertAnswer::WrongForecast => 4,
+        InsertAnswer::KeyZero => 5,
+        InsertAnswer::KeyPresent => 6,
+        InsertAnswer::Full => 8,
+        InsertAnswer::Inserted(_) => 0,
+    }
+}
+
+pub fn insert_moves(answer: InsertAnswer) -> u64
+    ensures { λ r. ⌜ r ≡ insertPaper answer .moves ⌝ }
+{
+    match answer {
+        InsertAnswer::WrongLength => 0,
+        InsertAnswer::WrongOrder => 0,
+        InsertAnswer::TooManyKeys => 0,
+        InsertAnswer::WrongForecast => 0,
+        InsertAnswer::KeyZero => 0,
+        InsertAnswer::KeyPresent => 0,
+        InsertAnswer::Full => 0,
+        InsertAnswer::Inserted(n) => n,
+    }
+}
+
+pub fn delete_number(answer: DeleteAnswer) -> u64
+    ensures { λ r. ⌜ r ≡ deletePaper answer .number ⌝ }
+{
+    match answer {
+        DeleteAnswer::WrongLength => 1,
+        DeleteAnswer::WrongOrder => 2,
+        DeleteAnswer::TooManyKeys => 3,
+        DeleteAnswer::WrongForecast => 4,
+        DeleteAnswer::KeyZero => 5,
+        DeleteAnswer::KeyAbsent => 7,
+        DeleteAnswer::Deleted(_) => 0,
+        DeleteAnswer::DeletedSparse(_) => 0,
+    }
+}
+
+pub fn delete_moves(answer: DeleteAnswer) -> u64
+    ensures { λ r. ⌜ r ≡ deletePaper answer .moves ⌝ }
+{
+    match answer {
+        DeleteAnswer::WrongLength => 0,
+        DeleteAnswer::WrongOrder => 0,
+        DeleteAnswer::TooManyKeys => 0,
+        DeleteAnswer::WrongForecast => 0,
+        DeleteAnswer::KeyZero => 0,
+        DeleteAnswer::KeyAbsent => 0,
+        DeleteAnswer::Deleted(n) => n,
+        DeleteAnswer::DeletedSparse(n) => n,
+    }
+}
+
+// Whether the list is sparse then.
+pub fn delete_sparse(answer: DeleteAnswer) -> u64
+    ensures { λ r. ⌜ r ≡ one (deletePaper answer .sparse) ⌝ }
+{
+    match answer {
+        DeleteAnswer::WrongLength => 0,
+        DeleteAnswer::WrongOrder => 0,
+        DeleteAnswer::TooManyKeys => 0,
+        DeleteAnswer::WrongForecast => 0,
+        DeleteAnswer::KeyZero => 0,
+        DeleteAnswer::KeyAbsent => 0,
+        DeleteAnswer::Deleted(_) => 0,
+        DeleteAnswer::DeletedSparse(_) => 1,
     }
 }

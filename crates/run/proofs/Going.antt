@@ -128,14 +128,16 @@ module _ (slots₀ : List ℕ) (F₀ : Forecast) (bytes : List ℕ) (allowance h
       same : lent q slots F ≡ outcome (shares h) q (roomOf slots F)
       same = ap (λ (S : Shares). outcome S q (roomOf slots F)) (shares-valid slots F h n (g .valid))
 
-      -- before a record that is over the allowance
-      pub ends-over : isOver (r .effect) ≡ true → Ends slots₀ F₀ bytes allowance (record { forecast = F; tally = t; stop = 10 }) slots′
+      -- before a record that is over the allowance, whose step hands the forecast back
+      pub ends-over : isOver (r .effect) ≡ true → Ends slots₀ F₀ bytes allowance (record { forecast = r .forecast; tally = t; stop = 10 }) slots′
       ends-over o =
-          let w : (allowance - t .moves < lent q slots F .answer .moves) × (stepOf (allowance - t .moves) q slots F .slots ≡ slots)
+          let w : (allowance - t .moves < lent q slots F .answer .moves) × (stepOf (allowance - t .moves) q slots F .slots ≡ slots) × (stepOf (allowance - t .moves) q slots F .step .forecast ≡ F)
           = over-turn (allowance - t .moves) q slots F (sym (ap (λ (z : Step). isOver (z .effect)) (s .step)) ∙ o) in
           let m : lent q slots F .answer .moves ≡ outcome (shares h) q (roomOf slots F) .answer .moves = ap (λ (z : Outcome). z .answer .moves) same in
-          ended 10 slots′ (s .slots-left ∙ w .1)
-          (here ∙ work-over (shares h) allowance q _ (roomOf slots F) (numbers t) (T-false (isBad q) ok) (omega (arith, w .0, m, g .moves)))
+          let f : r .forecast ≡ F = ap (λ (z : Step). z .forecast) (s .step) ∙ w .2 in
+          subst (λ (G : Forecast). Ends slots₀ F₀ bytes allowance (record { forecast = G; tally = t; stop = 10 }) slots′) (sym f)
+          (ended 10 slots′ (s .slots-left ∙ w .1)
+          (here ∙ work-over (shares h) allowance q _ (roomOf slots F) (numbers t) (T-false (isBad q) ok) (omega (arith, w .0, m, g .moves))))
 
       module _ (o : isOver (r .effect) ≡ false) where
         turn : Turn (allowance - t .moves) q slots F h d

@@ -71,10 +71,14 @@ module _ (left : ℕ) (q : Request) (slots : List ℕ) (F : Forecast) where
       (λ n. ap (λ (d : Stepped). isOver (d .step .effect)) (cases.accepted-step left q slots F h n))
       (λ n. ap (λ (d : Stepped). isOver (d .step .effect)) (cases.refused-step left q slots F h n) ∙ not-over (lent q slots F .answer .number))
 
-  pub over-turn : isOver (stepOf left q slots F .step .effect) ≡ true → (left < lent q slots F .answer .moves) × (stepOf left q slots F .slots ≡ slots)
+  pub over-turn : isOver (stepOf left q slots F .step .effect) ≡ true → (left < lent q slots F .answer .moves) × (stepOf left q slots F .slots ≡ slots) × (stepOf left q slots F .step .forecast ≡ F)
   over-turn e =
       elim (tested (ltb left (lent q slots F .answer .moves))) [
-        | inl l ↦ (ltb→lt _ _ l, ap (λ (d : Stepped). d .slots) (cases.over-step left q slots F (ltb→lt _ _ l)))
+        | inl l ↦ (
+          ltb→lt _ _ l,
+          ap (λ (d : Stepped). d .slots) (cases.over-step left q slots F (ltb→lt _ _ l)),
+          ap (λ (d : Stepped). d .step .forecast) (cases.over-step left q slots F (ltb→lt _ _ l)),
+        )
         | inr l ↦ absurd (clash e (within-step (nltb→le _ _ l)))
       ]
 

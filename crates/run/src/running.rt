@@ -106,7 +106,8 @@ fn step(
     }
 }
 
-// The records in order, on a list that has been checked.
+// The records in order, on a list that has been checked. A step that is over hands the old forecast back: set before the test, it is
+// copied once.
 fn work(
     list: &mut [u64],
     start: Forecast,
@@ -139,6 +140,7 @@ fn work(
         }
         let left = allowance - tally.moves;
         let taken = step(list, forecast, request, h, keys, left);
+        forecast = taken.forecast;
         let effect = taken.effect;
         if is_over(effect) {
             return Ended {
@@ -147,7 +149,6 @@ fn work(
                 stop: 10,
             };
         }
-        forecast = taken.forecast;
         keys = taken.keys;
         tally = next(tally, taken);
     }

@@ -43,9 +43,9 @@ fn stream(name: &[u8], list: &mut [u64], forecast: Forecast, allowance: u64) -> 
     let reply = done.reply;
     let left = reply.forecast;
     let answer = list::calls::check(list, left);
-    let check = list::telling::tell_check(answer);
+    let check = list::telling::check_number(answer);
     text(name);
-    tell(reply, done.totals, check.number);
+    tell(reply, done.totals, check);
     left
 }
 

@@ -5,7 +5,7 @@ ghost use lib.ListN.{length};
 use forecast::Cell;
 use forecast::Forecast;
 use libc::STDOUT_FILENO;
-use list::Told;
+use list::telling;
 
 struct Command {
     ask: u8,
@@ -36,11 +36,6 @@ fn line(word: &[u8], a: u64, b: u64, c: u64) {
     number(b);
     number(c);
     text(b"\n");
-}
-
-// What a call answers.
-fn tell(word: &[u8], told: Told) {
-    line(word, told.number, told.first, told.second);
 }
 
 // What the slots hold, as one number.
@@ -122,7 +117,7 @@ fn ask_make(slots: &mut [u64], room: Room, c: Command) -> Room {
     }
     let reply = list::calls::make(&mut slots[..len]);
     let answer = reply.answer;
-    tell(b"make", list::telling::tell_make(answer));
+    line(b"make", telling::make_number(answer), 0, 0);
     let forecast = reply.forecast;
     Room { len, forecast }
 }
@@ -135,7 +130,12 @@ fn ask_insert(slots: &mut [u64], room: Room, c: Command) -> Room {
     }
     let reply = list::changing::insert(&mut slots[..len], room.forecast, c.x);
     let answer = reply.answer;
-    tell(b"insert", list::telling::tell_insert(answer));
+    line(
+        b"insert",
+        telling::insert_number(answer),
+        telling::insert_moves(answer),
+        0,
+    );
     let forecast = reply.forecast;
     Room { len, forecast }
 }
@@ -148,7 +148,12 @@ fn ask_delete(slots: &mut [u64], room: Room, c: Command) -> Room {
     }
     let reply = list::changing::delete(&mut slots[..len], room.forecast, c.x);
     let answer = reply.answer;
-    tell(b"delete", list::telling::tell_delete(answer));
+    line(
+        b"delete",
+        telling::delete_number(answer),
+        telling::delete_moves(answer),
+        telling::delete_sparse(answer),
+    );
     let forecast = reply.forecast;
     Room { len, forecast }
 }
@@ -160,7 +165,12 @@ fn ask_lookup(slots: &[u64], room: Room, c: Command) {
         return;
     }
     let answer = list::calls::lookup(&slots[..len], c.x);
-    tell(b"lookup", list::telling::tell_lookup(answer));
+    line(
+        b"lookup",
+        telling::lookup_number(answer),
+        telling::lookup_present(answer),
+        telling::lookup_segment(answer),
+    );
 }
 
 // 5: scan from x into an output of y numbers, filled with 7 before.
@@ -179,7 +189,12 @@ fn scan_into(slots: &[u64], len: usize, c: Command, output: &mut [u64]) {
         return;
     }
     let answer = list::calls::scan(&slots[..len], c.x, &mut output[..n]);
-    tell(b"scan", list::telling::tell_scan(answer));
+    line(
+        b"scan",
+        telling::scan_number(answer),
+        telling::scan_written(answer),
+        telling::scan_more(answer),
+    );
     line(b"output", sum_of(output), 0, 0);
 }
 
@@ -190,7 +205,7 @@ fn ask_check(slots: &[u64], room: Room) {
         return;
     }
     let answer = list::calls::check(&slots[..len], room.forecast);
-    tell(b"check", list::telling::tell_check(answer));
+    line(b"check", telling::check_number(answer), 0, 0);
 }
 
 // 7: slot x becomes y.

@@ -14,14 +14,14 @@ slice-aggregate-check c = sym (length-take-le _ _ (search needs))
 check-requires : tie.Need-check-requires
 check-requires c κs = search needs
 
-slice-aggregate-tell : tie.Need-slice-aggregate-tell
-slice-aggregate-tell c = search needs
+slice-aggregate-line : tie.Need-slice-aggregate-line
+slice-aggregate-line c = search needs
 
-tell-check-requires : tie.Need-tell-check-requires
-tell-check-requires c κs = search needs
+check-number-requires : tie.Need-check-number-requires
+check-number-requires c κs = search needs
 
-tell-requires : tie.Need-tell-requires
-tell-requires c κs = search needs
+line-requires : tie.Need-line-requires
+line-requires c κs = search needs
 
 returns-2 : tie.Need-returns-2
 returns-2 c = search needs
@@ -33,7 +33,7 @@ ask-check-spec =
     returns
     slice-aggregate-check
     check-requires
-    slice-aggregate-tell
-    tell-check-requires
-    tell-requires
+    slice-aggregate-line
+    check-number-requires
+    line-requires
     returns-2)

@@ -17,14 +17,20 @@ slice-aggregate-delete c = sym (length-take-le _ _ (search needs))
 delete-requires : tie.Need-delete-requires
 delete-requires c κs = search needs
 
-slice-aggregate-tell : tie.Need-slice-aggregate-tell
-slice-aggregate-tell c = search needs
+slice-aggregate-line : tie.Need-slice-aggregate-line
+slice-aggregate-line c = search needs
 
-tell-delete-requires : tie.Need-tell-delete-requires
-tell-delete-requires c κs = search needs
+delete-number-requires : tie.Need-delete-number-requires
+delete-number-requires c κs = search needs
 
-tell-requires : tie.Need-tell-requires
-tell-requires c κs = search needs
+delete-moves-requires : tie.Need-delete-moves-requires
+delete-moves-requires c κs = search needs
+
+delete-sparse-requires : tie.Need-delete-sparse-requires
+delete-sparse-requires c κs = search needs
+
+line-requires : tie.Need-line-requires
+line-requires c κs = search needs
 
 same-length : tie.Need-same-length
 same-length c = search needs
@@ -40,8 +46,10 @@ ask-delete-spec =
     slice-relend-prefix-delete
     slice-aggregate-delete
     delete-requires
-    slice-aggregate-tell
-    tell-delete-requires
-    tell-requires
+    slice-aggregate-line
+    delete-number-requires
+    delete-moves-requires
+    delete-sparse-requires
+    line-requires
     same-length
     returns-2)

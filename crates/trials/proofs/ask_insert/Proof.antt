@@ -17,14 +17,17 @@ slice-aggregate-insert c = sym (length-take-le _ _ (search needs))
 insert-requires : tie.Need-insert-requires
 insert-requires c κs = search needs
 
-slice-aggregate-tell : tie.Need-slice-aggregate-tell
-slice-aggregate-tell c = search needs
+slice-aggregate-line : tie.Need-slice-aggregate-line
+slice-aggregate-line c = search needs
 
-tell-insert-requires : tie.Need-tell-insert-requires
-tell-insert-requires c κs = search needs
+insert-number-requires : tie.Need-insert-number-requires
+insert-number-requires c κs = search needs
 
-tell-requires : tie.Need-tell-requires
-tell-requires c κs = search needs
+insert-moves-requires : tie.Need-insert-moves-requires
+insert-moves-requires c κs = search needs
+
+line-requires : tie.Need-line-requires
+line-requires c κs = search needs
 
 same-length : tie.Need-same-length
 same-length c = search needs
@@ -40,8 +43,9 @@ ask-insert-spec =
     slice-relend-prefix-insert
     slice-aggregate-insert
     insert-requires
-    slice-aggregate-tell
-    tell-insert-requires
-    tell-requires
+    slice-aggregate-line
+    insert-number-requires
+    insert-moves-requires
+    line-requires
     same-length
     returns-2)

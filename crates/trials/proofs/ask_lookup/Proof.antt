@@ -14,14 +14,20 @@ slice-aggregate-lookup c = sym (length-take-le _ _ (search needs))
 lookup-requires : tie.Need-lookup-requires
 lookup-requires c κs = search needs
 
-slice-aggregate-tell : tie.Need-slice-aggregate-tell
-slice-aggregate-tell c = search needs
+slice-aggregate-line : tie.Need-slice-aggregate-line
+slice-aggregate-line c = search needs
 
-tell-lookup-requires : tie.Need-tell-lookup-requires
-tell-lookup-requires c κs = search needs
+lookup-number-requires : tie.Need-lookup-number-requires
+lookup-number-requires c κs = search needs
 
-tell-requires : tie.Need-tell-requires
-tell-requires c κs = search needs
+lookup-present-requires : tie.Need-lookup-present-requires
+lookup-present-requires c κs = search needs
+
+lookup-segment-requires : tie.Need-lookup-segment-requires
+lookup-segment-requires c κs = search needs
+
+line-requires : tie.Need-line-requires
+line-requires c κs = search needs
 
 returns-2 : tie.Need-returns-2
 returns-2 c = search needs
@@ -33,7 +39,9 @@ ask-lookup-spec =
     returns
     slice-aggregate-lookup
     lookup-requires
-    slice-aggregate-tell
-    tell-lookup-requires
-    tell-requires
+    slice-aggregate-line
+    lookup-number-requires
+    lookup-present-requires
+    lookup-segment-requires
+    line-requires
     returns-2)

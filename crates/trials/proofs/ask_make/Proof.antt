@@ -17,14 +17,14 @@ slice-aggregate-make c = sym (length-take-le _ _ (search needs))
 make-requires : tie.Need-make-requires
 make-requires c κs = search needs
 
-slice-aggregate-tell : tie.Need-slice-aggregate-tell
-slice-aggregate-tell c = search needs
+slice-aggregate-line : tie.Need-slice-aggregate-line
+slice-aggregate-line c = search needs
 
-tell-make-requires : tie.Need-tell-make-requires
-tell-make-requires c κs = search needs
+make-number-requires : tie.Need-make-number-requires
+make-number-requires c κs = search needs
 
-tell-requires : tie.Need-tell-requires
-tell-requires c κs = search needs
+line-requires : tie.Need-line-requires
+line-requires c κs = search needs
 
 same-length : tie.Need-same-length
 same-length c = search needs
@@ -40,8 +40,8 @@ ask-make-spec =
     slice-relend-prefix-make
     slice-aggregate-make
     make-requires
-    slice-aggregate-tell
-    tell-make-requires
-    tell-requires
+    slice-aggregate-line
+    make-number-requires
+    line-requires
     same-length
     returns-2)

@@ -16,15 +16,15 @@ read-forecast-requires c κs = search needs
 check-requires : tie.Need-check-requires
 check-requires c κs = search needs
 
-tell-check-requires : tie.Need-tell-check-requires
-tell-check-requires c κs = search needs
+check-number-requires : tie.Need-check-number-requires
+check-number-requires c κs = search needs
 
 returns-2 : tie.Need-returns-2
 returns-2 c =
     let a = c .before .before .before .before .before .before .args in
-    check-given (a .list .now) (a .forecast .now) (c .before .before .read-forecast .result) (c .before .check .result) (c .tell-check .result) (c .before .before .before .if1 .left) (c .before .before .read-forecast .ensures) (c .before .check .ensures) (c .tell-check .ensures)
+    check-given (a .list .now) (a .forecast .now) (c .before .before .read-forecast .result) (c .before .check .result) (c .check-number .result) (c .before .before .before .if1 .left) (c .before .before .read-forecast .ensures) (c .before .check .ensures) (c .check-number .ensures)
 
 pub ff-check-spec : {M : Type 1} → statement M
 ff-check-spec =
     tie.close
-    (tie.spec returns read-forecast-requires check-requires tell-check-requires returns-2)
+    (tie.spec returns read-forecast-requires check-requires check-number-requires returns-2)

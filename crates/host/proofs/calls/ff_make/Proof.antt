@@ -13,11 +13,11 @@ returns c =
 make-requires : tie.Need-make-requires
 make-requires c κs = search needs
 
+make-number-requires : tie.Need-make-number-requires
+make-number-requires c κs = search needs
+
 write-forecast-requires : tie.Need-write-forecast-requires
 write-forecast-requires c κs = search needs
-
-tell-make-requires : tie.Need-tell-make-requires
-tell-make-requires c κs = search needs
 
 same-length : tie.Need-same-length
 same-length c = search needs
@@ -29,7 +29,7 @@ returns-2 : tie.Need-returns-2
 returns-2 c =
     let a = c .before .before .before .before .before .before .before .before .before .before .before .before .before .args in
     let made = c .before .before .before .before .before .before .before .before .make in
-    make-given (a .list .now) (a .forecast .now) (made .result) (c .tell-make .result) _ _ (c .before .before .before .before .before .before .before .before .before .before .if1 .left) (made .ensures) (c .before .before .before .write-forecast .ensures) (c .tell-make .ensures)
+    make-given (a .list .now) (a .forecast .now) (made .result) (c .before .before .before .before .before .make-number .result) _ _ (c .before .before .before .before .before .before .before .before .before .before .if1 .left) (made .ensures) (c .before .before .write-forecast .ensures) (c .before .before .before .before .before .make-number .ensures)
 
 pub ff-make-spec : {M : Type 1} → statement M
 ff-make-spec =
@@ -37,8 +37,8 @@ ff-make-spec =
     (tie.spec
     returns
     make-requires
+    make-number-requires
     write-forecast-requires
-    tell-make-requires
     same-length
     same-length-2
     returns-2)

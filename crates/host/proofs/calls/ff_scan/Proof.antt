@@ -13,8 +13,14 @@ returns c =
 scan-requires : tie.Need-scan-requires
 scan-requires c κs = search needs
 
-tell-scan-requires : tie.Need-tell-scan-requires
-tell-scan-requires c κs = search needs
+scan-number-requires : tie.Need-scan-number-requires
+scan-number-requires c κs = search needs
+
+scan-written-requires : tie.Need-scan-written-requires
+scan-written-requires c κs = search needs
+
+scan-more-requires : tie.Need-scan-more-requires
+scan-more-requires c κs = search needs
 
 slice-write-reply : tie.Need-slice-write-reply
 slice-write-reply c = search needs
@@ -30,8 +36,8 @@ same-length-2 c = search needs
 
 returns-2 : tie.Need-returns-2
 returns-2 c =
-    let a = c .before .before .before .before .before .before .before .before .before .args in
-    scan-given (a .list .now) (a .from) (a .output .now) (a .reply .now) (c .before .before .before .scan .result) (c .tell-scan .result) _ (c .before .before .before .before .before .if1 .left) (c .before .before .before .scan .ensures) (c .tell-scan .ensures)
+    let a = c .before .before .before .before .before .before .before .before .before .before .before .args in
+    scan-given (a .list .now) (a .from) (a .output .now) (a .reply .now) (c .before .before .before .before .before .scan .result) _ _ _ _ (c .before .before .before .before .before .before .before .if1 .left) (c .before .before .before .before .before .scan .ensures) (c .before .before .scan-number .ensures) (c .before .scan-written .ensures) (c .scan-more .ensures)
 
 pub ff-scan-spec : {M : Type 1} → statement M
 ff-scan-spec =
@@ -39,7 +45,9 @@ ff-scan-spec =
     (tie.spec
     returns
     scan-requires
-    tell-scan-requires
+    scan-number-requires
+    scan-written-requires
+    scan-more-requires
     slice-write-reply
     slice-write-reply-2
     same-length

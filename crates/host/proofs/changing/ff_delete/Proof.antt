@@ -21,11 +21,17 @@ read-forecast-requires c κs = search needs
 delete-requires : tie.Need-delete-requires
 delete-requires c κs = search needs
 
+delete-number-requires : tie.Need-delete-number-requires
+delete-number-requires c κs = search needs
+
+delete-moves-requires : tie.Need-delete-moves-requires
+delete-moves-requires c κs = search needs
+
+delete-sparse-requires : tie.Need-delete-sparse-requires
+delete-sparse-requires c κs = search needs
+
 write-forecast-requires : tie.Need-write-forecast-requires
 write-forecast-requires c κs = search needs
-
-tell-delete-requires : tie.Need-tell-delete-requires
-tell-delete-requires c κs = search needs
 
 slice-write-reply : tie.Need-slice-write-reply
 slice-write-reply c = search needs
@@ -44,11 +50,10 @@ same-length-3 c = search needs
 
 returns-3 : tie.Need-returns-3
 returns-3 c =
-    let a = c .before .before .before .before .before .before .before .before .before .before .before .before .before .before .before .before .before .args in
-    let read = c .before .before .before .before .before .before .before .before .before .before .read-forecast in
-    let done = c .before .before .before .before .before .before .before .before .delete in
-    let told = c .tell-delete in
-    delete-given (a .list .now) (a .forecast .now) (a .key) (a .reply .now) (read .result) (done .result) (told .result) _ _ (c .before .before .before .before .before .before .before .before .before .before .before .before .before .if1 .left) (c .before .before .before .before .before .before .before .before .before .before .before .before .if2 .left) (read .ensures) (done .ensures) (c .before .before .before .write-forecast .ensures) (told .ensures)
+    let a = c .before .before .before .before .before .before .before .before .before .before .before .before .before .before .before .before .before .before .before .args in
+    let read = c .before .before .before .before .before .before .before .before .before .before .before .before .read-forecast in
+    let done = c .before .before .before .before .before .before .before .before .before .before .delete in
+    delete-given (a .list .now) (a .forecast .now) (a .key) (a .reply .now) (read .result) (done .result) _ _ _ _ _ (c .before .before .before .before .before .before .before .before .before .before .before .before .before .before .before .if1 .left) (c .before .before .before .before .before .before .before .before .before .before .before .before .before .before .if2 .left) (read .ensures) (done .ensures) (c .before .before .write-forecast .ensures) (c .before .before .before .before .before .before .before .delete-number .ensures) (c .before .before .before .before .before .before .delete-moves .ensures) (c .before .before .before .before .before .delete-sparse .ensures)
 
 pub ff-delete-spec : {M : Type 1} → statement M
 ff-delete-spec =
@@ -58,8 +63,10 @@ ff-delete-spec =
     returns-2
     read-forecast-requires
     delete-requires
+    delete-number-requires
+    delete-moves-requires
+    delete-sparse-requires
     write-forecast-requires
-    tell-delete-requires
     slice-write-reply
     slice-write-reply-2
     same-length

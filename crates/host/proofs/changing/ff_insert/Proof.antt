@@ -21,11 +21,14 @@ read-forecast-requires c κs = search needs
 insert-requires : tie.Need-insert-requires
 insert-requires c κs = search needs
 
+insert-number-requires : tie.Need-insert-number-requires
+insert-number-requires c κs = search needs
+
+insert-moves-requires : tie.Need-insert-moves-requires
+insert-moves-requires c κs = search needs
+
 write-forecast-requires : tie.Need-write-forecast-requires
 write-forecast-requires c κs = search needs
-
-tell-insert-requires : tie.Need-tell-insert-requires
-tell-insert-requires c κs = search needs
 
 slice-write-reply : tie.Need-slice-write-reply
 slice-write-reply c = search needs
@@ -41,11 +44,10 @@ same-length-3 c = search needs
 
 returns-3 : tie.Need-returns-3
 returns-3 c =
-    let a = c .before .before .before .before .before .before .before .before .before .before .before .before .before .before .before .before .before .args in
-    let read = c .before .before .before .before .before .before .before .before .before .before .read-forecast in
-    let done = c .before .before .before .before .before .before .before .before .insert in
-    let told = c .tell-insert in
-    insert-given (a .list .now) (a .forecast .now) (a .key) (a .reply .now) (read .result) (done .result) (told .result) _ _ (c .before .before .before .before .before .before .before .before .before .before .before .before .before .if1 .left) (c .before .before .before .before .before .before .before .before .before .before .before .before .if2 .left) (read .ensures) (done .ensures) (c .before .before .before .write-forecast .ensures) (told .ensures)
+    let a = c .before .before .before .before .before .before .before .before .before .before .before .before .before .before .before .before .before .before .args in
+    let read = c .before .before .before .before .before .before .before .before .before .before .before .read-forecast in
+    let done = c .before .before .before .before .before .before .before .before .before .insert in
+    insert-given (a .list .now) (a .forecast .now) (a .key) (a .reply .now) (read .result) (done .result) _ _ _ _ (c .before .before .before .before .before .before .before .before .before .before .before .before .before .before .if1 .left) (c .before .before .before .before .before .before .before .before .before .before .before .before .before .if2 .left) (read .ensures) (done .ensures) (c .before .before .write-forecast .ensures) (c .before .before .before .before .before .before .insert-number .ensures) (c .before .before .before .before .before .insert-moves .ensures)
 
 pub ff-insert-spec : {M : Type 1} → statement M
 ff-insert-spec =
@@ -55,8 +57,9 @@ ff-insert-spec =
     returns-2
     read-forecast-requires
     insert-requires
+    insert-number-requires
+    insert-moves-requires
     write-forecast-requires
-    tell-insert-requires
     slice-write-reply
     same-length
     same-length-2

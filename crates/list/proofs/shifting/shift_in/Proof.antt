@@ -1,9 +1,9 @@
--- `shift_in` opens a gap for the key in its segment, where the moves are within what is left; else it changes nothing.
+-- `shift_in` opens a gap for the key in its segment, whose moves are within what is left.
 use Prim.Native.Nat.{_+_, _*_, _≤_}
 use native.Mathlib.Omega.{arith}
 use lib.ListN.{length, length-take, length-drop}
 use mathlib.Core.Path.{refl}
-use Rattle.list.proofs.ShiftedIn.{in-bounds, shift-in-over, shift-in-done}
+use Rattle.list.proofs.ShiftedIn.{in-bounds, shift-in-done}
 use borrow.Author.Needs.{needs}
 use Rattle.list.proofs.shifting.shift_in.Statement.{statement}
 use Rattle.list.proofs.shifting.shift_in.Tie as tie
@@ -25,17 +25,8 @@ sub-moves c = bounds (c .before) .2
 add-moves : tie.Need-add-moves
 add-moves c = search needs
 
-nothing-requires : tie.Need-nothing-requires
-nothing-requires c κs = search needs
-
-returns : tie.Need-returns
-returns c =
-    let s = c .before .before .before in
-    rw (c .nothing .ensures)
-    (shift-in-over (s .args .list .now) (s .args .forecast) (s .args .noted) (s .args .h) (s .args .keys) (s .args .key) (s .args .place) (s .pre .0) (s .pre .1) (s .args .left) (c .before .if1 .taken))
-
 mul-open-gap : tie.Need-mul-open-gap
-mul-open-gap c = omega (arith, bounds (c .before .before))
+mul-open-gap c = omega (arith, bounds (c .before))
 
 sub-open-gap : tie.Need-sub-open-gap
 sub-open-gap c = search needs
@@ -44,24 +35,24 @@ part-open-gap-start : tie.Need-part-open-gap-start
 part-open-gap-start c = search needs
 
 part-open-gap-end : tie.Need-part-open-gap-end
-part-open-gap-end c = bounds (c .before .before) .0
+part-open-gap-end c = bounds (c .before) .0
 
 open-gap-requires : tie.Need-open-gap-requires
 open-gap-requires c κs =
-    let s = c .before .before .before in
+    let s = c .before .before in
     (omega (arith, bounds s), simp (length-take, length-drop) (omega (arith, bounds s, s .pre .1)))
 
 add-t15 : tie.Need-add-t15
-add-t15 c = omega (arith, bounds (c .before .before .before .before .before .before))
+add-t15 c = omega (arith, bounds (c .before .before .before .before .before))
 
 same-length : tie.Need-same-length
 same-length c = search needs
 
-returns-2 : tie.Need-returns-2
-returns-2 c =
-    let s = c .before .before .before .before .before .before in
-    shift-in-done (s .args .list .now) (s .args .forecast) (s .args .noted) (s .args .h) (s .args .keys) (s .args .key) (s .args .place) (s .pre .0) (s .pre .1) (s .args .left) _ _ _
-    (c .before .before .before .before .if1 .left) refl refl (c .before .before .open-gap .ensures)
+returns : tie.Need-returns
+returns c =
+    let s = c .before .before .before .before .before in
+    shift-in-done (s .args .list .now) (s .args .forecast) (s .args .noted) (s .args .h) (s .args .keys) (s .args .key) (s .args .place) (s .pre .0) (s .pre .1) (s .args .left) _ _ _ (s .pre .2) refl refl
+    (c .before .before .open-gap .ensures)
 
 pub shift-in-spec : {M : Type 1} → statement M
 shift-in-spec =
@@ -71,8 +62,6 @@ shift-in-spec =
     add-e
     sub-moves
     add-moves
-    nothing-requires
-    returns
     mul-open-gap
     sub-open-gap
     part-open-gap-start
@@ -80,4 +69,4 @@ shift-in-spec =
     open-gap-requires
     add-t15
     same-length
-    returns-2)
+    returns)

@@ -1,10 +1,10 @@
--- `shift_out` closes the gap that the key leaves in its segment, where the moves are within what is left; else it changes nothing.
+-- `shift_out` closes the gap that the key leaves in its segment, whose moves are within what is left.
 use mathlib.Core.Path.{refl}
 use Prim.Native.Nat.{_+_, _*_, _≤_, _<_}
 use native.Mathlib.Omega.{arith}
 use lib.ListN.{length, length-take, length-drop}
 use Rattle.list.proofs.FromValid.{height-valid}
-use Rattle.list.proofs.ShiftedOut.{out-bounds, shift-out-over, shift-out-done}
+use Rattle.list.proofs.ShiftedOut.{out-bounds, shift-out-done}
 use borrow.Author.Needs.{needs}
 use Rattle.list.proofs.shifting.shift_out.Statement.{statement}
 use Rattle.list.proofs.shifting.shift_out.Tie as tie
@@ -27,18 +27,8 @@ sub-moves c = omega (arith, bounds (c .before))
 sub-moves-2 : tie.Need-sub-moves-2
 sub-moves-2 c = omega (arith, bounds (c .before))
 
-nothing-requires : tie.Need-nothing-requires
-nothing-requires c κs = search needs
-
-returns : tie.Need-returns
-returns c =
-    let s = c .before .before .before in
-    rw (c .nothing .ensures)
-    (shift-out-over (s .args .list .now) (s .args .forecast) (s .args .dropped) (s .args .h) (s .args .keys) (s .args .key) (s .args .place) (s .pre .0) (s .pre .1) (s .args .left)
-    (c .before .if1 .taken))
-
 mul-close-gap : tie.Need-mul-close-gap
-mul-close-gap c = omega (arith, bounds (c .before .before))
+mul-close-gap c = omega (arith, bounds (c .before))
 
 sub-close-gap : tie.Need-sub-close-gap
 sub-close-gap c = search needs
@@ -47,33 +37,33 @@ part-close-gap-start : tie.Need-part-close-gap-start
 part-close-gap-start c = search needs
 
 part-close-gap-end : tie.Need-part-close-gap-end
-part-close-gap-end c = bounds (c .before .before) .0
+part-close-gap-end c = bounds (c .before) .0
 
 close-gap-requires : tie.Need-close-gap-requires
 close-gap-requires c κs =
-    let s = c .before .before .before in
+    let s = c .before .before in
     (bounds s .2, simp (length-take, length-drop) (omega (arith, bounds s)))
 
 sub-is-sparse : tie.Need-sub-is-sparse
-sub-is-sparse c = bounds (c .before .before .before .before .before .before) .4
+sub-is-sparse c = bounds (c .before .before .before .before .before) .4
 
 is-sparse-requires : tie.Need-is-sparse-requires
 is-sparse-requires c κs =
-    let s = c .before .before .before .before .before .before in
+    let s = c .before .before .before .before .before in
     height-valid (s .args .list .now) (s .args .forecast) (s .args .h) (s .args .keys) (s .pre .0 .valid)
 
-sub-t15 : tie.Need-sub-t15
-sub-t15 c = bounds (c .before .before .before .before .before .before .before) .4
+sub-t16 : tie.Need-sub-t16
+sub-t16 c = bounds (c .before .before .before .before .before .before) .4
 
 same-length : tie.Need-same-length
 same-length c = search needs
 
-returns-2 : tie.Need-returns-2
-returns-2 c =
-    let s = c .before .before .before .before .before .before .before in
+returns : tie.Need-returns
+returns c =
+    let s = c .before .before .before .before .before .before in
     rw (c .is-sparse .ensures)
-    (shift-out-done (s .args .list .now) (s .args .forecast) (s .args .dropped) (s .args .h) (s .args .keys) (s .args .key) (s .args .place) (s .pre .0) (s .pre .1) (s .args .left) _ _ _
-    (c .before .before .before .before .before .if1 .left) refl refl (c .before .before .before .close-gap .ensures))
+    (shift-out-done (s .args .list .now) (s .args .forecast) (s .args .dropped) (s .args .h) (s .args .keys) (s .args .key) (s .args .place) (s .pre .0) (s .pre .1) (s .args .left) _ _ _ (s .pre .2) refl refl
+    (c .before .before .before .close-gap .ensures))
 
 pub shift-out-spec : {M : Type 1} → statement M
 shift-out-spec =
@@ -83,8 +73,6 @@ shift-out-spec =
     add-e
     sub-moves
     sub-moves-2
-    nothing-requires
-    returns
     mul-close-gap
     sub-close-gap
     part-close-gap-start
@@ -92,6 +80,6 @@ shift-out-spec =
     close-gap-requires
     sub-is-sparse
     is-sparse-requires
-    sub-t15
+    sub-t16
     same-length
-    returns-2)
+    returns)

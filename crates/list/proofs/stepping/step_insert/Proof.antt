@@ -1,5 +1,6 @@
--- `step_insert` refuses by 5, 6 or 8, or notes the predecessor and hands the key to a shift or to a sweep.
+-- `step_insert` refuses by 5, 6 or 8, or changes nothing where a shift would be over; or notes the predecessor and hands the key to a shift or to a sweep.
 use mathlib.Core.Path.{_≡_}
+use mathlib.Core.Logic.{⊎-elim}
 use native.Mathlib.Omega.{arith}
 use lib.ListN.{length}
 use Rattle.slots.specs.Segments.{segmentsOf}
@@ -8,7 +9,7 @@ use Rattle.forecast.specs.Held.{Tidy}
 use Rattle.forecast.proofs.Stepping.{array-long}
 use Rattle.list.specs.Stepped.{Inserting}
 use Rattle.list.proofs.FromValid.{height-valid, shows-valid, some-valid, tidy-valid}
-use Rattle.list.proofs.InsertSteps.{insert-zero, insert-present, insert-full, fresh-place, inserting}
+use Rattle.list.proofs.InsertSteps.{insert-zero, insert-present, insert-full, insert-over, fresh-place, inserting}
 use borrow.Author.Needs.{needs}
 use Rattle.list.proofs.stepping.step_insert.Statement.{statement}
 use Rattle.list.proofs.stepping.step_insert.Tie as tie
@@ -64,52 +65,71 @@ returns-3 c =
     (insert-full (s .args .left) (s .args .key) (s .args .list .now) (s .args .forecast) (s .args .h) (s .args .keys) (s .pre) (l .before .before .if1 .left) (l .locate .result)
     (l .locate .ensures .1 _ (shows s)) (c .before .before .if2 .left) (c .before .if3 .taken))
 
-key-before-requires : tie.Need-key-before-requires
-key-before-requires c κs = search needs
+sub-if5 : tie.Need-sub-if5
+sub-if5 c = search needs
 
-add-note-insert : tie.Need-add-note-insert
-add-note-insert c =
-    let s = c .before .before .before .before .before .before .before .before in
-    omega (arith, height-valid (s .args .list .now) (s .args .forecast) (s .args .h) (s .args .keys) (s .pre))
-
-note-insert-requires : tie.Need-note-insert-requires
-note-insert-requires c κs =
-    let s = c .before .before .before .before .before .before .before .before in
-    (tidy s, (omega arith, omega (arith, height-valid (s .args .list .now) (s .args .forecast) (s .args .h) (s .args .keys) (s .pre))))
-
--- the predecessor is noted
-noting : (c : tie.After-note-insert)
-    → Inserting (c .before .before .before .before .before .before .before .before .before .args .list .now) (c .before .before .before .before .before .before .before .before .before .args .forecast)
-    (c .note-insert .result) (c .before .before .before .before .before .before .before .before .before .args .h) (c .before .before .before .before .before .before .before .before .before .args .keys)
-    (c .before .before .before .before .before .before .before .before .before .args .key) (c .before .before .before .before .before .locate .result)
-noting c =
-    let l = c .before .before .before .before .before in
-    let s = l .before .before .before .before in
-    let at = l .locate .ensures .1 _ (shows s) in
-    let t = c .before .before .before .before .if2 .left in
-    inserting (s .args .left) (s .args .key) (s .args .list .now) (s .args .forecast) (s .args .h) (s .args .keys) (s .pre) (l .before .before .if1 .left) (l .locate .result) at t
-    (c .before .before .before .if3 .left) (c .before .key-before .result)
-    (c .before .key-before .ensures (shows s) at
-    (fresh-place (s .args .left) (s .args .key) (s .args .list .now) (s .args .forecast) (s .args .h) (s .args .keys) (s .pre) (l .before .before .if1 .left) (l .locate .result) at t))
-    (c .note-insert .result) (c .note-insert .ensures)
-
-shift-in-requires : tie.Need-shift-in-requires
-shift-in-requires c κs = (noting (c .before .before .before), c .before .if4 .taken)
+nothing-requires-4 : tie.Need-nothing-requires-4
+nothing-requires-4 c κs = search needs
 
 same-length-3 : tie.Need-same-length-3
 same-length-3 c = search needs
 
 returns-4 : tie.Need-returns-4
-returns-4 c = search needs
+returns-4 c =
+    let l = c .before .before .before .before .before in
+    let s = l .before .before .before .before in
+    rw (c .nothing4 .ensures)
+    (insert-over (s .args .left) (s .args .key) (s .args .list .now) (s .args .forecast) (s .args .h) (s .args .keys) (s .pre) (l .before .before .if1 .left) (l .locate .result)
+    (l .locate .ensures .1 _ (shows s)) (c .before .before .before .before .if2 .left) (c .before .before .before .if3 .left) (c .before .before .if4 .taken) (c .before .if5 .taken))
 
-resow-in-requires : tie.Need-resow-in-requires
-resow-in-requires c κs = (noting (c .before .before .before), c .before .if4 .left)
+key-before-requires : tie.Need-key-before-requires
+key-before-requires c κs = search needs
+
+add-note-insert : tie.Need-add-note-insert
+add-note-insert c =
+    let s = c .before .before .before .before .before .before .before .before .before in
+    omega (arith, height-valid (s .args .list .now) (s .args .forecast) (s .args .h) (s .args .keys) (s .pre))
+
+note-insert-requires : tie.Need-note-insert-requires
+note-insert-requires c κs =
+    let s = c .before .before .before .before .before .before .before .before .before in
+    (tidy s, (omega arith, omega (arith, height-valid (s .args .list .now) (s .args .forecast) (s .args .h) (s .args .keys) (s .pre))))
+
+-- the predecessor is noted
+noting : (c : tie.After-note-insert)
+    → Inserting (c .before .before .before .before .before .before .before .before .before .before .args .list .now) (c .before .before .before .before .before .before .before .before .before .before .args .forecast)
+    (c .note-insert .result) (c .before .before .before .before .before .before .before .before .before .before .args .h) (c .before .before .before .before .before .before .before .before .before .before .args .keys)
+    (c .before .before .before .before .before .before .before .before .before .before .args .key) (c .before .before .before .before .before .before .locate .result)
+noting c =
+    let l = c .before .before .before .before .before .before in
+    let s = l .before .before .before .before in
+    let at = l .locate .ensures .1 _ (shows s) in
+    let t = c .before .before .before .before .before .if2 .left in
+    inserting (s .args .left) (s .args .key) (s .args .list .now) (s .args .forecast) (s .args .h) (s .args .keys) (s .pre) (l .before .before .if1 .left) (l .locate .result) at t
+    (c .before .before .before .before .if3 .left) (c .before .key-before .result)
+    (c .before .key-before .ensures (shows s) at
+    (fresh-place (s .args .left) (s .args .key) (s .args .list .now) (s .args .forecast) (s .args .h) (s .args .keys) (s .pre) (l .before .before .if1 .left) (l .locate .result) at t))
+    (c .note-insert .result) (c .note-insert .ensures)
+
+shift-in-requires : tie.Need-shift-in-requires
+shift-in-requires c κs =
+    let room = c .before .if6 .taken in
+    (noting (c .before .before .before), room, ⊎-elim (λ w. omega (arith, w .1 .left)) (λ w. omega (arith, w .left, room)) (c .before .before .before .before .before .before .if4 .came))
 
 same-length-4 : tie.Need-same-length-4
 same-length-4 c = search needs
 
 returns-5 : tie.Need-returns-5
 returns-5 c = search needs
+
+resow-in-requires : tie.Need-resow-in-requires
+resow-in-requires c κs = (noting (c .before .before .before), c .before .if6 .left)
+
+same-length-5 : tie.Need-same-length-5
+same-length-5 c = search needs
+
+returns-6 : tie.Need-returns-6
+returns-6 c = search needs
 
 pub step-insert-spec : {M : Type 1} → statement M
 step-insert-spec =
@@ -124,12 +144,16 @@ step-insert-spec =
     nothing-requires-3
     same-length-2
     returns-3
+    sub-if5
+    nothing-requires-4
+    same-length-3
+    returns-4
     key-before-requires
     add-note-insert
     note-insert-requires
     shift-in-requires
-    same-length-3
-    returns-4
-    resow-in-requires
     same-length-4
-    returns-5)
+    returns-5
+    resow-in-requires
+    same-length-5
+    returns-6)

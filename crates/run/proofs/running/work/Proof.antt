@@ -63,15 +63,15 @@ same-length-2 c = search needs
 
 returns-2 : tie.Need-returns-2 Inv-loop μ-loop
 returns-2 c =
-    let v = c .before .before .before .before .before .before .before .before .before .before .before .before .before .loop in
-    let s = c .before .before .before .before .before .before .before .before .before .before .before .before .before .before .before .before in
-    ends-over (s .args .list .now) (s .args .start) (s .args .requests .now) (s .args .allowance) (s .args .h) (v .list) (v .forecast) (v .keys) (v .tally) (v .inv .0) (c .before .before .before .before .before .before .before .before .before .before .before .if1 .taken) (c .before .before .before .before .before .before .before .before .before .request-of .result) (c .before .before .before .before .before .before .before .before .before .request-of .ensures) (sym (c .before .before .before .before .before .before .before .before .is-bad .ensures) ∙ c .before .before .before .before .before .before .before .if2 .left) (c .before .before .before .before .step .result) (c .before .before .before .before .step .last .0) (c .before .before .before .before .step .ensures) (sym (c .before .is-over .ensures) ∙ c .if3 .taken)
+    let v = c .before .before .before .before .before .before .before .before .before .before .before .before .before .before .loop in
+    let s = c .before .before .before .before .before .before .before .before .before .before .before .before .before .before .before .before .before in
+    ends-over (s .args .list .now) (s .args .start) (s .args .requests .now) (s .args .allowance) (s .args .h) (v .list) (v .forecast) (v .keys) (v .tally) (v .inv .0) (c .before .before .before .before .before .before .before .before .before .before .before .before .if1 .taken) (c .before .before .before .before .before .before .before .before .before .before .request-of .result) (c .before .before .before .before .before .before .before .before .before .before .request-of .ensures) (sym (c .before .before .before .before .before .before .before .before .before .is-bad .ensures) ∙ c .before .before .before .before .before .before .before .before .if2 .left) (c .before .before .before .before .before .step .result) (c .before .before .before .before .before .step .last .0) (c .before .before .before .before .before .step .ensures) (sym (c .before .is-over .ensures) ∙ c .if3 .taken)
 
 next-requires : tie.Need-next-requires Inv-loop μ-loop
 next-requires c κs =
     let v = c .before .before .before .before .before .before .before .before .before .before .before .before .before .before .loop in
     let s = c .before .before .before .before .before .before .before .before .before .before .before .before .before .before .before .before .before in
-    let m = small (s .args .list .now) (s .args .start) (s .args .requests .now) (s .args .allowance) (s .args .h) (v .list) (v .forecast) (v .keys) (v .tally) (v .inv .0) (c .before .before .before .before .before .before .before .before .before .before .before .before .if1 .taken) (c .before .before .before .before .before .before .before .before .before .before .request-of .result) (c .before .before .before .before .before .before .before .before .before .before .request-of .ensures) (sym (c .before .before .before .before .before .before .before .before .before .is-bad .ensures) ∙ c .before .before .before .before .before .before .before .before .if2 .left) (c .before .before .before .before .before .step .result) (c .before .before .before .before .before .step .last .0) (c .before .before .before .before .before .step .ensures) (sym (c .before .before .is-over .ensures) ∙ c .before .if3 .left) in
+    let m = small (s .args .list .now) (s .args .start) (s .args .requests .now) (s .args .allowance) (s .args .h) (v .list) (v .forecast) (v .keys) (v .tally) (v .inv .0) (c .before .before .before .before .before .before .before .before .before .before .before .before .if1 .taken) (c .before .before .before .before .before .before .before .before .before .before .request-of .result) (c .before .before .before .before .before .before .before .before .before .before .request-of .ensures) (sym (c .before .before .before .before .before .before .before .before .before .is-bad .ensures) ∙ c .before .before .before .before .before .before .before .before .if2 .left) (c .before .before .before .before .before .step .result) (c .before .before .before .before .before .step .last .0) (c .before .before .before .before .before .step .ensures) (sym (c .before .is-over .ensures) ∙ c .if3 .left) in
     (search needs, search needs, search needs, search needs, omega (arith, m, s .fits .allowance))
 
 loop-less : tie.Need-loop-less Inv-loop μ-loop
@@ -84,7 +84,7 @@ loop-again : tie.Need-loop-again Inv-loop μ-loop
 loop-again c =
     let v = c .before .before .before .before .before .before .before .before .before .before .before .before .before .before .before .loop in
     let s = c .before .before .before .before .before .before .before .before .before .before .before .before .before .before .before .before .before .before in
-    (subst (Going (s .args .list .now) (s .args .start) (s .args .requests .now) (s .args .allowance) (s .args .h) _ _ _) (sym (c .next .ensures)) (goes-on (s .args .list .now) (s .args .start) (s .args .requests .now) (s .args .allowance) (s .args .h) (v .list) (v .forecast) (v .keys) (v .tally) (v .inv .0) (c .before .before .before .before .before .before .before .before .before .before .before .before .before .if1 .taken) (c .before .before .before .before .before .before .before .before .before .before .before .request-of .result) (c .before .before .before .before .before .before .before .before .before .before .before .request-of .ensures) (sym (c .before .before .before .before .before .before .before .before .before .before .is-bad .ensures) ∙ c .before .before .before .before .before .before .before .before .before .if2 .left) (c .before .before .before .before .before .before .step .result) (c .before .before .before .before .before .before .step .last .0) (c .before .before .before .before .before .before .step .ensures) (sym (c .before .before .before .is-over .ensures) ∙ c .before .before .if3 .left)), c .before .before .before .before .before .before .step .kept .0 ∙ v .inv .1)
+    (subst (Going (s .args .list .now) (s .args .start) (s .args .requests .now) (s .args .allowance) (s .args .h) _ _ _) (sym (c .next .ensures)) (goes-on (s .args .list .now) (s .args .start) (s .args .requests .now) (s .args .allowance) (s .args .h) (v .list) (v .forecast) (v .keys) (v .tally) (v .inv .0) (c .before .before .before .before .before .before .before .before .before .before .before .before .before .if1 .taken) (c .before .before .before .before .before .before .before .before .before .before .before .request-of .result) (c .before .before .before .before .before .before .before .before .before .before .before .request-of .ensures) (sym (c .before .before .before .before .before .before .before .before .before .before .is-bad .ensures) ∙ c .before .before .before .before .before .before .before .before .before .if2 .left) (c .before .before .before .before .before .before .step .result) (c .before .before .before .before .before .before .step .last .0) (c .before .before .before .before .before .before .step .ensures) (sym (c .before .before .is-over .ensures) ∙ c .before .if3 .left)), c .before .before .before .before .before .before .step .kept .0 ∙ v .inv .1)
 
 same-length-3 : tie.Need-same-length-3 Inv-loop μ-loop
 same-length-3 c = search needs

@@ -1,19 +1,21 @@
 -- One law for each case of the forecast's definitions, so that nothing else has to open them.
-use mathlib.Core.Path.{_≡_, refl, ap}
+use mathlib.Core.Path.{_≡_, refl, sym, ap, _∙_}
 use mathlib.Core.Logic.{_≢_}
 use mathlib.Core.List.{List, _∷_, map}
 use Prim.Native.Nat.{ℕ, _+_, _-_, _≤_, _<_}
 use native.Mathlib.Omega.{arith}
 use borrow.Author.Tests.{lt-ltb, le-ltb, le-leb, lt-leb, ne-eqb}
-use lib.Dec.{eqb→eq}
+use lib.Dec.{eqb, eqb→eq}
 use lib.ListN.{length, take, getD, set, List·getD-eq-default}
 use Rattle.lists.specs.Lists.{without, padded}
+use Rattle.lists.specs.Search.{placeBy}
 use Rattle.lists.proofs.Tests.{eq→eqb}
+use Rattle.lists.proofs.Maps.{map-take, place-map}
 use Rattle.lists.proofs.Members.{at-mem}
 use Rattle.lists.proofs.Search.{place-passes, place-mem}
 use Rattle.lists.proofs.Fill.{take-padded-all, length-padded, without-past}
 use Rattle.forecast.specs.declared.Cell.{Cell}
-use Rattle.forecast.specs.Cells.{cell, zeroCell, counted, usedCells, forecastOf, marks, cellAt, weight}
+use Rattle.forecast.specs.Cells.{cell, zeroCell, counted, usedCells, forecastOf, marks, cellAt, weight, markersOf}
 use Rattle.forecast.specs.Steps.{raised, tailed, noted, dropped, aimed, retargeted}
 
 -- WHERE A MARKER'S CELL IS
@@ -25,6 +27,10 @@ module _ (x : ℕ) (cs : List Cell) where
   -- a cell with the marker is found
   pub marked-found : (i : ℕ) → i < length cs → getD cs i zeroCell .marker ≡ x → cellAt x cs < length cs
   marked-found i h e = place-mem (marks x) cs (getD cs i zeroCell) (at-mem cs i zeroCell h) (eq→eqb _ _ e)
+
+-- the markers by themselves are searched alike
+pub place-marker : (x n : ℕ) (cs : List Cell) → placeBy (λ m. eqb m x) (take n (markersOf cs)) ≡ cellAt x (take n cs)
+place-marker x n cs = ap (placeBy (λ m. eqb m x)) (sym (map-take (λ c. c .marker) n cs)) ∙ place-map (λ m. eqb m x) (λ c. c .marker) (take n cs)
 
 -- NOTING
 module _ (P x s : ℕ) (cs : List Cell) where

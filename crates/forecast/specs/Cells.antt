@@ -1,7 +1,7 @@
 -- Document 01, "The forecast": at most P cells, ordered from newest (head) to oldest (tail).
 use Prim.Native.Nat.{ℕ}
 use mathlib.Core.Bool.{Bool}
-use mathlib.Core.List.{List}
+use mathlib.Core.List.{List, map}
 use lib.Dec.{eqb}
 use lib.ListN.{length, take, getD}
 use Rattle.lists.specs.Lists.{padded}
@@ -33,6 +33,9 @@ marks x c = eqb (c .marker) x
 
 abbrev pub cellAt : ℕ → List Cell → ℕ
 cellAt x cs = placeBy (marks x) cs
+
+abbrev pub markersOf : List Cell → List ℕ
+markersOf cs = map (λ c. c .marker) cs
 
 -- The weight of a key (of the front, for 0) is its cell's count, else 0.
 unfoldable pub weight : List Cell → ℕ → ℕ

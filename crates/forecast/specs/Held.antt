@@ -8,7 +8,7 @@ use Rattle.lists.specs.Lists.{All, padded}
 use Rattle.slots.specs.Segments.{Segments, keys}
 use Rattle.forecast.specs.declared.Cell.{Cell}
 use Rattle.forecast.specs.declared.Forecast.{Forecast}
-use Rattle.forecast.specs.Cells.{zeroCell, usedCells}
+use Rattle.forecast.specs.Cells.{zeroCell, usedCells, markersOf}
 
 -- at most 12 cells in use, and the others all zeros
 pub record Tidy (F : Forecast) : Type 0 where
@@ -33,3 +33,9 @@ pub record Fitting (F : Forecast) : Type 0 where
   pub small : All (λ c. c .count ≤ 12) (usedCells F)
   pub apart : (i j : ℕ) → i < length (usedCells F) → j < length (usedCells F)
       → getD (usedCells F) i zeroCell .marker ≡ getD (usedCells F) j zeroCell .marker → i ≡ j
+
+-- c is cell i of the forecast, which uses so many of its cells and has these markers
+pub record CellOf (F : Forecast) (i : ℕ) (c : Cell) (n : ℕ) (ms : List ℕ) : Type 0 where
+  pub cell : c ≡ getD (F .cells) i zeroCell
+  pub used : n ≡ F .used
+  pub markers : ms ≡ markersOf (F .cells)

@@ -2,15 +2,17 @@
 ghost use mathlib.Core.Path.{_≡_};
 ghost use mathlib.Core.List.{[], _∷_};
 ghost use Prim.Native.Nat.{ℕ, _+_, _*_, _≤_, _<_};
+ghost use lib.Dec.{eqb};
 ghost use lib.ListN.{length, take, getD};
 ghost use Rattle.lists.specs.Lists.{without};
+ghost use Rattle.lists.specs.Search.{placeBy};
 ghost use Rattle.slots.specs.Segments.{Segments};
 ghost use Rattle.slots.specs.Keys.{segmentOf};
 ghost use Rattle.slots.specs.Shown.{Shows};
-ghost use Rattle.forecast.specs.Cells.{cell, zeroCell, usedCells, cellAt, weight};
+ghost use Rattle.forecast.specs.Cells.{cell, zeroCell, usedCells, cellAt, weight, markersOf};
 ghost use Rattle.forecast.specs.Steps.{raised, tailed, noted, dropped, retargeted};
 ghost use Rattle.forecast.specs.Faults.{isZero, markerFault, faultAt, faultOf, isSound};
-ghost use Rattle.forecast.specs.Held.{Tidy, Became, Marker, Live};
+ghost use Rattle.forecast.specs.Held.{Tidy, Became, Marker, Live, CellOf};
 
 // A marker is a live key, or 0 for the front of the list.
 pub struct Cell {
@@ -51,19 +53,26 @@ impl Forecast {
         }
     }
 
+    // The markers of all cells: a search of them copies no cell.
+    fn markers(self) -> [u64; 12]
+        ensures { λ r. ⌜ r ≡ markersOf (self .cells) ⌝ }
+    {
+        let mut markers: [u64; 12] = [0; 12];
+        let mut i: usize = 0;
+        while i < 12 {
+            markers[i] = self.cells[i].marker;
+            i += 1;
+        }
+        markers
+    }
+
     // The first of the first `n` cells with this marker, or `n`.
     fn first_with(self, n: usize, marker: u64) -> usize
         requires { ⌜ n ≤ 12 ⌝ }
         ensures { λ r. ⌜ r ≡ cellAt marker (take n (self .cells)) ⌝ }
     {
-        let mut i: usize = 0;
-        while i < n {
-            if self.cells[i].marker == marker {
-                return i;
-            }
-            i += 1;
-        }
-        i
+        let markers = self.markers();
+        first_of(&markers, n, marker)
     }
 
     // One more for the cell at `at`, which then changes places with its neighbour toward the head.
@@ -221,31 +230,6 @@ impl Forecast {
         self
     }
 
-    // What is wrong with the cell at `i`, if anything.
-    fn fault_at(self, i: usize, p: usize, list: &[u64]) -> Fault
-        requires { ⌜ i < 12 ⌝ }
-        requires { ⌜ 64 ≤ length (now list) ⌝ }
-        ensures { λ r. ⌜ ((ss : Segments) → Shows ss (now (list .entry)) → r ≡ faultAt p ss self i) ⌝ }
-    {
-        let cell = self.cells[i];
-        if self.used <= i {
-            if is_zero(cell) {
-                return Fault::Sound;
-            }
-            return Fault::NotZero(i);
-        }
-        if cell.count < 1 {
-            return Fault::Count(i);
-        }
-        if p < cell.count {
-            return Fault::Count(i);
-        }
-        if self.first_with(i, cell.marker) < i {
-            return Fault::Repeated(i);
-        }
-        marker_fault(cell, i, list)
-    }
-
     // The first fault from the head. Of any forecast; the list is one that passed refusals 1 to 3.
     pub fn fault(self, p: usize, list: &[u64]) -> Fault
         ensures { λ r. ⌜ ((ss : Segments) → Shows ss (now (list .entry)) → 64 ≤ length (now (list .entry)) → r ≡ faultOf p ss self) ⌝ }
@@ -253,12 +237,15 @@ impl Forecast {
         if list.len() < 64 {
             return Fault::Sound;
         }
-        if p < self.used {
+        let used = self.used;
+        if p < used {
             return Fault::TooMany;
         }
+        let markers = self.markers();
         let mut i: usize = 0;
         while i < 12 {
-            let fault = self.fault_at(i, p, list);
+            let cell = self.cells[i];
+            let fault = fault_at(cell, i, used, &markers, p, list);
             if !is_sound(fault) {
                 return fault;
             }
@@ -266,6 +253,21 @@ impl Forecast {
         }
         Fault::Sound
     }
+}
+
+// The first of the first `n` markers that is `marker`, or `n`.
+fn first_of(markers: &[u64], n: usize, marker: u64) -> usize
+    requires { ⌜ n ≤ length (now markers) ⌝ }
+    ensures { λ r. ⌜ r ≡ placeBy (λ m. eqb m marker) (take n (now (markers .entry))) ⌝ }
+{
+    let mut i: usize = 0;
+    while i < n {
+        if markers[i] == marker {
+            return i;
+        }
+        i += 1;
+    }
+    i
 }
 
 // The segment of a marker that is live; 0 for the front.
@@ -292,6 +294,29 @@ fn is_zero(cell: Cell) -> bool
     cell.count == 0
 }
 
+// What is wrong with cell `i` of a forecast that uses `used` of its cells and has these markers, if anything.
+fn fault_at(cell: Cell, i: usize, used: usize, markers: &[u64], p: usize, list: &[u64]) -> Fault
+    requires { ⌜ (i < length (now markers)) × (64 ≤ length (now list)) ⌝ }
+    ensures { λ r. ⌜ ((F : Forecast) (ss : Segments) → CellOf F i cell used (now (markers .entry)) → Shows ss (now (list .entry)) → r ≡ faultAt p ss F i) ⌝ }
+{
+    if used <= i {
+        if is_zero(cell) {
+            return Fault::Sound;
+        }
+        return Fault::NotZero(i);
+    }
+    if cell.count < 1 {
+        return Fault::Count(i);
+    }
+    if p < cell.count {
+        return Fault::Count(i);
+    }
+    if first_of(markers, i, cell.marker) < i {
+        return Fault::Repeated(i);
+    }
+    marker_fault(cell, i, list)
+}
+
 // What is wrong with a used cell's marker or segment, if anything.
 fn marker_fault(cell: Cell, i: usize, list: &[u64]) -> Fault
     requires { ⌜ 64 ≤ length (now list) ⌝ }
@@ -302,6 +327,10 @@ fn marker_fault(cell: Cell, i: usize, list: &[u64]) -> Fault
             return Fault::Sound;
         }
         return Fault::Misplaced(i);
+    }
+    // The segment that the cell names first: most often the marker is there.
+    if slots::finding::stands_in(list, cell.segment, cell.marker) {
+        return Fault::Sound;
     }
     let place = slots::finding::locate(list, cell.marker);
     if place.present {

@@ -24,7 +24,7 @@ use Rattle.list.specs.declared.ScanAnswer.{ScanAnswer}
 use Rattle.list.specs.Answers.{ScanPaper, scanPaper}
 use Rattle.list.specs.Admits.{ScanAdmits}
 use Rattle.list.specs.Scans.{Wrote, keysFrom}
-use Rattle.list.proofs.Valid.{shows-passed}
+use Rattle.steps.proofs.Valid.{shows-passed}
 use Rattle.list.proofs.Replies.{scan-refused, scan-passed}
 
 -- WHERE THEY BEGIN

@@ -21,15 +21,15 @@ use Rattle.rules.proofs.Accepted.{insert-accepts, delete-accepts, settled-spars
 use Rattle.rules.proofs.Checked.{checked}
 use Rattle.rules.proofs.MoveBound.{moves-bound}
 use Rattle.rules.proofs.Requests.{lent, lent-refused, lent-accepted, request-unchecked, by-number}
-use Rattle.list.specs.declared.Effect.the-variants.{Done}
-use Rattle.list.specs.declared.Step.{Step}
+use Rattle.steps.specs.declared.Effect.the-variants.{Done}
+use Rattle.steps.specs.declared.Step.{Step}
 use Rattle.list.specs.declared.InsertAnswer.{InsertAnswer}
 use Rattle.list.specs.declared.DeleteAnswer.{DeleteAnswer}
 use Rattle.list.specs.Answers.{insertPaper, deletePaper}
 use Rattle.list.specs.Admits.{InsertAdmits, DeleteAdmits}
 use Rattle.list.specs.Changes.{insertAnswer, deleteAnswer}
-use Rattle.list.proofs.StepCases as cases
-use Rattle.list.specs.Stepped.{idle, effectOf, Stepped, stepOf, Steps}
+use Rattle.steps.proofs.StepCases as cases
+use Rattle.steps.specs.Stepped.{idle, effectOf, Stepped, stepOf, Steps}
 
 -- THE ANSWER by the outcome
 insert-dense : (S : Shares) (y : ℕ) (R : Room) → insertKey S y R .answer .sparse ≡ false

@@ -30,7 +30,7 @@ use Rattle.list.specs.declared.DeleteAnswer.{DeleteAnswer}
 use Rattle.list.specs.declared.DeleteReply.{DeleteReply}
 use Rattle.list.specs.Answers.{scanPaper}
 use Rattle.list.specs.Admits.{MakeAdmits, CheckAdmits, LookupAdmits, ScanAdmits, InsertAdmits, DeleteAdmits}
-use Rattle.list.proofs.Numbers.{wrong-length, list-first}
+use Rattle.steps.proofs.Numbers.{wrong-length, list-first}
 use Rattle.list.proofs.Replies.{make-refused, lookup-refused, scan-passed}
 use Rattle.list.proofs.Above.{refused-admits}
 use Rattle.list.proofs.Papers.{make-told, check-told, lookup-told, scan-told, insert-told, delete-told}

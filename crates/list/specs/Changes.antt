@@ -2,7 +2,7 @@
 use Prim.Native.Nat.{ℕ}
 use mathlib.Core.Bool.{Bool}
 use Rattle.lists.specs.Choice.{if_then_else_}
-use Rattle.list.specs.declared.Effect.{Effect}
+use Rattle.steps.specs.declared.Effect.{Effect}
 use Rattle.list.specs.declared.InsertAnswer.{InsertAnswer}
 use Rattle.list.specs.declared.DeleteAnswer.{DeleteAnswer}
 

@@ -13,7 +13,6 @@ use crate::LookupAnswer;
 use crate::MakeAnswer;
 use crate::MakeReply;
 use crate::ScanAnswer;
-use crate::reading;
 use forecast::Forecast;
 
 // Writes 0 in every slot and gives an empty forecast.
@@ -39,7 +38,7 @@ pub fn make(list: &mut [u64]) -> MakeReply
 pub fn check(list: &[u64], forecast: Forecast) -> CheckAnswer
     ensures { λ r. ⌜ CheckAdmits (now (list .entry)) forecast r ⌝ }
 {
-    let n = reading::look_over_both(list, forecast).number;
+    let n = steps::reading::look_over_both(list, forecast).number;
     if n == 0 {
         return CheckAnswer::Passed;
     }
@@ -59,7 +58,7 @@ pub fn check(list: &[u64], forecast: Forecast) -> CheckAnswer
 pub fn lookup(list: &[u64], key: u64) -> LookupAnswer
     ensures { λ r. ⌜ LookupAdmits (now (list .entry)) key r ⌝ }
 {
-    let n = reading::look_over(list).number;
+    let n = steps::reading::look_over(list).number;
     if n == 1 {
         return LookupAnswer::WrongLength;
     }
@@ -123,7 +122,7 @@ fn write_keys(list: &[u64], first: usize, at: usize, held: usize, output: &mut [
 pub fn scan(list: &[u64], from: u64, output: &mut [u64]) -> ScanAnswer
     ensures { λ r. ⌜ ScanAdmits (now (list .entry)) from (now (output .entry)) r (now (output .exit)) ⌝ }
 {
-    let n = reading::look_over(list).number;
+    let n = steps::reading::look_over(list).number;
     if n == 1 {
         return ScanAnswer::WrongLength;
     }

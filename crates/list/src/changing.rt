@@ -5,15 +5,13 @@ ghost use Rattle.rules.specs.Placing.{refused};
 ghost use Rattle.list.specs.Answers.{insertPaper, deletePaper};
 ghost use Rattle.list.specs.Changes.{insertAnswer, deleteAnswer};
 ghost use Rattle.list.specs.Admits.{InsertAdmits, DeleteAdmits};
-ghost use Rattle.list.specs.declared.Effect.{Effect};
+ghost use Rattle.steps.specs.declared.Effect.{Effect};
 use crate::DeleteAnswer;
 use crate::DeleteReply;
-use crate::Effect;
 use crate::InsertAnswer;
 use crate::InsertReply;
-use crate::reading;
-use crate::stepping;
 use forecast::Forecast;
+use steps::Effect;
 
 // What refuses an insert, by the number of the check.
 fn insert_refusal(number: usize) -> InsertAnswer
@@ -50,7 +48,7 @@ fn insert_answer(effect: Effect, moves: u64) -> InsertAnswer
 pub fn insert(list: &mut [u64], forecast: Forecast, key: u64) -> InsertReply
     ensures { λ r. ⌜ InsertAdmits (now (list .entry)) forecast key r (now (list .exit)) ⌝ }
 {
-    let listing = reading::look_over_both(list, forecast);
+    let listing = steps::reading::look_over_both(list, forecast);
     let number = listing.number;
     if number != 0 {
         return InsertReply {
@@ -60,7 +58,7 @@ pub fn insert(list: &mut [u64], forecast: Forecast, key: u64) -> InsertReply
     }
     let h = listing.height;
     let keys = listing.keys;
-    let step = stepping::step_insert(list, forecast, key, h, keys, 18446744073709551615);
+    let step = steps::stepping::step_insert(list, forecast, key, h, keys, 18446744073709551615);
     let effect = step.effect;
     let moves = step.moves;
     let after = step.forecast;
@@ -115,7 +113,7 @@ fn delete_answer(effect: Effect, moves: u64, sparse: bool) -> DeleteAnswer
 pub fn delete(list: &mut [u64], forecast: Forecast, key: u64) -> DeleteReply
     ensures { λ r. ⌜ DeleteAdmits (now (list .entry)) forecast key r (now (list .exit)) ⌝ }
 {
-    let listing = reading::look_over_both(list, forecast);
+    let listing = steps::reading::look_over_both(list, forecast);
     let number = listing.number;
     if number != 0 {
         return DeleteReply {
@@ -125,7 +123,7 @@ pub fn delete(list: &mut [u64], forecast: Forecast, key: u64) -> DeleteReply
     }
     let h = listing.height;
     let keys = listing.keys;
-    let step = stepping::step_delete(list, forecast, key, h, keys, 18446744073709551615);
+    let step = steps::stepping::step_delete(list, forecast, key, h, keys, 18446744073709551615);
     let effect = step.effect;
     let moves = step.moves;
     let sparse = step.sparse;

@@ -1,11 +1,14 @@
--- Parts, changes and splices of a mapped list.
+-- Parts, changes, splices and searches of a mapped list.
 use mathlib.Core.Path.{_≡_, refl, ap, ap₂, _∙_}
+use mathlib.Core.Bool.{Bool}
 use mathlib.Core.List.{List, [], _∷_, _++_, map, map-append}
 use Prim.Native.Nat.{ℕ, zero, suc, _+_, _≤_, _<_}
 use native.Mathlib.Omega.{arith}
 use lib.ListN.{length, take, drop, getD, set, length-append, length-drop}
 use lib.Seq.{length-take-le}
+use Rattle.lists.specs.Choice.{if_then_else_}
 use Rattle.lists.specs.Lists.{splice}
+use Rattle.lists.specs.Search.{placeBy}
 
 module _ {ℓ κ} {A : Type ℓ} {B : Type κ} where
   pub map-take : (f : A → B) (n : ℕ) (xs : List A) → map f (take n xs) ≡ take n (map f xs)
@@ -33,6 +36,11 @@ module _ {ℓ κ} {A : Type ℓ} {B : Type κ} where
   getD-map f [] i d e h = absurd (omega arith)
   getD-map f (x ∷ xs) zero d e h = refl
   getD-map f (x ∷ xs) (suc i) d e h = getD-map f xs i d e (omega arith)
+
+-- the place of the first that passes
+pub place-map : {A B : Type 0} (p : B → Bool) (f : A → B) (xs : List A) → placeBy p (map f xs) ≡ placeBy (λ x. p (f x)) xs
+place-map p f [] = refl
+place-map p f (x ∷ xs) = ap (λ (n : ℕ). if p (f x) then 0 else suc n) (place-map p f xs)
 
 pub length-splice {ℓ} : {A : Type ℓ} (i n : ℕ) (new xs : List A) → length new ≡ n → i + n ≤ length xs → length (splice i n new xs) ≡ length xs
 length-splice i n new xs e h =

@@ -22,9 +22,9 @@ use Rattle.rules.proofs.Records.{records-nil, records-cons, short-bad}
 use Rattle.rules.proofs.Works.{work-end, work-bad, work-over, work-on}
 use Rattle.rules.proofs.Checked.{slots-shown, forecast-shown}
 use Rattle.rules.proofs.Requests.{lent}
-use Rattle.list.specs.declared.Step.{Step}
-use Rattle.list.specs.Stepped.{Valid, Stepped, stepOf, Steps}
-use Rattle.list.proofs.FromValid.{shares-valid}
+use Rattle.steps.specs.declared.Step.{Step}
+use Rattle.steps.specs.Stepped.{Valid, Stepped, stepOf, Steps}
+use Rattle.steps.proofs.FromValid.{shares-valid}
 use Rattle.run.specs.declared.Tally.{Tally}
 use Rattle.run.specs.Sums.{numbers}
 use Rattle.run.specs.Working.{isOver, isRefused, nextOf, whole, Ends}

@@ -24,8 +24,8 @@ use Rattle.rules.specs.Runs.{isBad, one}
 use Rattle.rules.proofs.Accepted.{refused-is, insert-accepts, delete-accepts}
 use Rattle.rules.proofs.Checked.{checked, check-render, room-render, height-render}
 use Rattle.rules.proofs.Requests.{lent, good-lent, by-number}
-use Rattle.list.specs.Stepped.{Valid, effectOf, Stepped, stepOf}
-use Rattle.list.proofs.StepCases as cases
+use Rattle.steps.specs.Stepped.{Valid, effectOf, Stepped, stepOf}
+use Rattle.steps.proofs.StepCases as cases
 use Rattle.run.specs.Working.{isOver, isRefused}
 
 -- no test is both

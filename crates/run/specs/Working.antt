@@ -9,8 +9,8 @@ use Rattle.forecast.specs.Cells.{forecastOf}
 use Rattle.rules.specs.Runs.{one, Ran, ran}
 use Rattle.rules.specs.Checks.{sharesOf}
 use Rattle.rules.specs.Calls.{roomOf}
-use Rattle.list.specs.declared.Effect.{Effect}
-use Rattle.list.specs.declared.Step.{Step}
+use Rattle.steps.specs.declared.Effect.{Effect}
+use Rattle.steps.specs.declared.Step.{Step}
 use Rattle.run.specs.declared.Tally.{Tally}
 use Rattle.run.specs.declared.Ended.{Ended}
 use Rattle.run.specs.Sums.{numbers}

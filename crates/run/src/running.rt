@@ -4,7 +4,7 @@ ghost use mathlib.Core.Bool.{not};
 ghost use Prim.Native.Nat.{_+_, _<_, _≤_, _^_};
 ghost use lib.Dec.{T};
 ghost use Rattle.rules.specs.Runs.{isBad, one};
-ghost use Rattle.list.specs.Stepped.{Valid, Steps};
+ghost use Rattle.steps.specs.Stepped.{Valid, Steps};
 ghost use Rattle.run.specs.Working.{isOver, isRefused, nextOf, Ends};
 ghost use Rattle.run.specs.Admits.{RunAdmits};
 use crate::Ended;
@@ -14,10 +14,10 @@ use crate::Tally;
 use crate::records;
 use crate::totals;
 use forecast::Forecast;
-use list::Effect;
-use list::Step;
 use rules::Request;
 use rules::Totals;
+use steps::Effect;
+use steps::Step;
 
 fn is_bad(request: Request) -> bool
     ensures { λ r. ⌜ r ≡ isBad request ⌝ }
@@ -93,8 +93,8 @@ fn step(
     ensures { λ r. ⌜ Steps left request (now (list .entry)) forecast r (now (list .exit)) ⌝ }
 {
     match request {
-        Request::Insert(key) => list::stepping::step_insert(list, forecast, key, h, keys, left),
-        Request::Delete(key) => list::stepping::step_delete(list, forecast, key, h, keys, left),
+        Request::Insert(key) => steps::stepping::step_insert(list, forecast, key, h, keys, left),
+        Request::Delete(key) => steps::stepping::step_delete(list, forecast, key, h, keys, left),
         Request::Bad => Step {
             effect: Effect::Done,
             forecast,
@@ -169,7 +169,7 @@ pub fn run_with(
 ) -> Run
     ensures { λ r. ⌜ RunAdmits (now (list .entry)) forecast (now (requests .entry)) allowance totals r (now (list .exit)) ⌝ }
 {
-    let listing = list::reading::look_over_both(list, forecast);
+    let listing = steps::reading::look_over_both(list, forecast);
     let number = listing.number;
     if number != 0 {
         return Run {

@@ -11,8 +11,7 @@ use Rattle.slots.specs.Shown.{Shows, seat}
 use Rattle.slots.specs.Orders.{slotAt}
 use Rattle.slots.specs.Stretches.{Filled}
 use Rattle.slots.proofs.Orders.{Ordered, in-list}
-use Rattle.slots.proofs.Live.{rising-ordered}
-use Rattle.slots.proofs.Render.{length-render, slot-render, live-render}
+use Rattle.slots.proofs.Render.{length-render, slot-render, ordered-render}
 use Rattle.slots.proofs.Seats.{head, seat-is}
 
 -- The segment best begins with a key up to key, or is the first; those after it and before a are empty; those from b on begin above key.
@@ -91,7 +90,7 @@ narrow-end list key best a b n h ss sh = seat-is key ss (sh .listed) best low hi
         ap (λ (l : List ℕ). slotAt l (64 * k)) (sh .whole) ∙ ap (slotAt (render 0 ss)) e ∙ slot-render 0 ss (sh .fits) k 0 (omega arith)
 
     ordered : Ordered list
-    ordered = subst Ordered (sym (sh .whole)) (rising-ordered (render 0 ss) (rw (live-render ss (sh .listed .live)) (sh .listed .rising)))
+    ordered = subst Ordered (sym (sh .whole)) (ordered-render ss (sh .listed))
 
     low : (best ≡ 0) ⊎ ((head ss best ≢ 0) × (head ss best ≤ key))
     low = rw (first best) at (n .low)

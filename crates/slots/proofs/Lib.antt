@@ -21,3 +21,4 @@ pub mod Halving
 pub mod Seats
 pub mod Heads
 pub mod Tallies
+pub mod Standing

@@ -105,6 +105,10 @@ pub live-render : (ss : Segments) → All (λ k. 0 < k) (keys ss) → live (rend
 unfolding render
 live-render ss h = sym (live-joined (map (pad 0) ss)) ∙ ap keys (lives ss h)
 
+-- in order, where the keys rise
+pub ordered-render : (ss : Segments) → Listed ss → Ordered (render 0 ss)
+ordered-render ss L = rising-ordered (render 0 ss) (rw (live-render ss (L .live)) (L .rising))
+
 module _ (ss : Segments) (sizes : All (λ s. length s ≤ 64) ss) where
   -- the slots show the segments again
   pub segments-render : All (λ k. 0 < k) (keys ss) → segmentsOf (render 0 ss) ≡ ss
@@ -127,7 +131,7 @@ module _ (ss : Segments) (sizes : All (λ s. length s ≤ 64) ss) where
 
   -- and their order is kept
   pub kept-render : Listed ss → T (isKept (orderOf (render 0 ss)))
-  kept-render L = kept← (render 0 ss) (rising-ordered (render 0 ss) (rw (live-render ss (L .live)) (L .rising))) (solid-render (L .live))
+  kept-render L = kept← (render 0 ss) (ordered-render ss L) (solid-render (L .live))
 
 -- slots that are all gaps show empty segments
 pub segments-empty : (n : ℕ) → segmentsOf (replicate (64 * n) 0) ≡ replicate n []

@@ -1,12 +1,15 @@
--- Laws of `before`: what stands before slot i in a stretch that begins at a.
-use mathlib.Core.Path.{_≡_}
-use mathlib.Core.Logic.{_≢_}
+-- Laws of `before`, what stands before slot i in a stretch that begins at a, and of slots that rise from a on.
+use mathlib.Core.Path.{_≡_, refl, sym, ap, _∙_}
+use mathlib.Core.Logic.{inl, inr, _≢_}
 use mathlib.Core.List.{List}
-use Prim.Native.Nat.{ℕ, _+_, _-_, _≤_}
+use Prim.Native.Nat.{ℕ, _+_, _-_, _≤_, _<_}
+use native.Mathlib.Nat.{eq-or-lt-of-le}
+use native.Mathlib.Decide.{decLt}
 use native.Mathlib.Omega.{arith}
+use borrow.Author.Count.{below-more}
 use borrow.Author.Tests.{eq-eqb, ne-eqb}
 use Rattle.slots.specs.Orders.{slotAt}
-use Rattle.slots.specs.Stretches.{before}
+use Rattle.slots.specs.Stretches.{before, Rises}
 
 module _ (xs : List ℕ) (a last i : ℕ) where
   -- at a, the last key before the stretch
@@ -23,3 +26,40 @@ module _ (xs : List ℕ) (a last i : ℕ) where
       let n : i + 1 ≢ a = omega arith in
       let e : i + 1 - 1 ≡ i = omega arith in
       rw (ne-eqb (i + 1) a n, e)
+
+-- SLOTS THAT RISE from a up to r
+module _ (xs : List ℕ) (a last : ℕ) where
+  abbrev pub Up : ℕ → Type 0
+  Up r = (k : ℕ) → k < r → a ≤ k → before xs a last k < slotAt xs k
+
+  -- slot j, the next after slot i, is above it too
+  next-up : (i j : ℕ) → j ≡ i + 1 → a ≤ i → slotAt xs i < slotAt xs j → Up j → Up (j + 1)
+  next-up i j e h l u = below-more _ _ u (λ m. omega (arith, ap (before xs a last) e, before-next xs a last i h))
+
+  -- four slots, each above the one before it
+  pub four-up : last < slotAt xs a → slotAt xs a < slotAt xs (a + 1) → slotAt xs (a + 1) < slotAt xs (a + 2) → slotAt xs (a + 2) < slotAt xs (a + 3)
+      → Rises xs a (a + 4) last (a + 4)
+  four-up p q r s =
+      let one : Up (a + 1) = below-more _ _ (λ k l h. absurd (omega arith)) (λ h. omega (arith, before-first xs a last a refl)) in
+      let two : Up (a + 1 + 1) = next-up a (a + 1) refl (omega arith) q one in
+      let three : Up (a + 2 + 1) = next-up (a + 1) (a + 2) (omega arith) (omega arith) r (λ k l. two k (omega arith)) in
+      let four : Up (a + 3 + 1) = next-up (a + 2) (a + 3) (omega arith) (omega arith) s (λ k l. three k (omega arith)) in
+      record { from = omega arith; to = omega arith; rises = λ k h l. four k (omega arith) h; stops = λ l. absurd (omega arith) }
+
+  -- from m, up to which they rise, and from a is the same
+  module _ (m top : ℕ) (h : a ≤ m) (u : Up m) (t : top ≡ before xs a last m) where
+    same : (k : ℕ) → m ≤ k → before xs m top k ≡ before xs a last k
+    same k l =
+        elim (eq-or-lt-of-le l) [
+          | inl e ↦ before-first xs m top k (sym e) ∙ t ∙ ap (before xs a last) e
+          | inr l ↦ before-later xs m top k (omega arith) ∙ sym (before-later xs a last k (omega arith))
+        ]
+
+    pub rises-on : (e r : ℕ) → Rises xs m e top r → Rises xs a e last r
+    rises-on e r p =
+        record {
+          from = omega (arith, p .from);
+          to = p .to;
+          rises = λ k l q. elim (decLt k m) [ yes z ↦ u k z l | no z ↦ omega (arith, same k (omega arith), p .rises k (omega arith) q) ];
+          stops = λ q. omega (arith, same r (p .from), p .stops q);
+        }

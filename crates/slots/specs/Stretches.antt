@@ -1,9 +1,10 @@
 -- What the loops under a search and a reading find, in any slots.
-use Prim.Native.Nat.{ℕ, _-_, _*_, _≤_, _<_}
+use Prim.Native.Nat.{ℕ, _+_, _-_, _*_, _≤_, _<_}
 use mathlib.Core.Path.{_≡_}
 use mathlib.Core.Logic.{_≢_}
 use mathlib.Core.List.{List}
 use lib.Dec.{leb, eqb}
+use lib.ListN.{length}
 use Rattle.lists.specs.Choice.{if_then_else_}
 use Rattle.slots.specs.declared.Order.{Order}
 use Rattle.slots.specs.declared.Order.the-variants.{NotRising, AfterGap}
@@ -32,6 +33,14 @@ pub record AllGaps (slots : List ℕ) (a e r : ℕ) : Type 0 where
   pub to : r ≤ e
   pub gaps : (i : ℕ) → a ≤ i → i < r → slotAt slots i ≡ 0
   pub stops : r < e → slotAt slots r ≢ 0
+
+-- One of the 64 slots of segment s holds y.
+pub record Stands (slots : List ℕ) (s y : ℕ) : Type 0 where
+  pub at : ℕ
+  pub from : 64 * s ≤ at
+  pub to : at < 64 * s + 64
+  pub inside : at < length slots
+  pub there : slotAt slots at ≡ y
 
 -- How the key x breaks the order at slot j, where top is the largest key before it.
 abbrev pub faultOf : ℕ → ℕ → ℕ → Order

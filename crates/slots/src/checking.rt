@@ -1,6 +1,7 @@
 // Reading any slots: the height of their number, and the first slot that breaks the order.
 ghost use mathlib.Core.Path.{_≡_};
 ghost use Prim.Native.Nat.{ℕ, _+_, _*_, _≤_, _<_, min};
+ghost use lib.Dec.{T};
 ghost use lib.ListN.{length, getD};
 ghost use Rattle.slots.specs.Orders.{isKept};
 ghost use Rattle.slots.specs.Segments.{heightOf};
@@ -34,8 +35,8 @@ pub fn height_of(n: usize) -> usize
     0
 }
 
-// The first slot from `a` up to `e` that is not above the slot before it, or above `last` at `a`; `e` where there is none.
-fn rising_end(list: &[u64], a: usize, e: usize, last: u64) -> usize
+// The first slot from `a` up to `e` that is not above the slot before it, or above `last` at `a`; `e` where there is none: one at a time.
+fn rising_rest(list: &[u64], a: usize, e: usize, last: u64) -> usize
     requires { ⌜ (a ≤ e) × (e ≤ length (now list)) ⌝ }
     ensures { λ r. ⌜ Rises (now (list .entry)) a e last r ⌝ }
 {
@@ -52,11 +53,63 @@ fn rising_end(list: &[u64], a: usize, e: usize, last: u64) -> usize
     i
 }
 
+// Each of the four slots from `a` on is above the slot before it, and the first above `last`.
+fn four_rise(list: &[u64], a: usize, last: u64) -> bool
+    requires { ⌜ a + 4 ≤ length (now list) ⌝ }
+    ensures { λ r. ⌜ (T r → Rises (now (list .entry)) a (a + 4) last (a + 4)) ⌝ }
+{
+    if list[a] <= last {
+        return false;
+    }
+    if list[a + 1] <= list[a] {
+        return false;
+    }
+    if list[a + 2] <= list[a + 1] {
+        return false;
+    }
+    list[a + 2] < list[a + 3]
+}
+
+// The first slot from `a` up to `e` that is not above the slot before it, or above `last` at `a`; `e` where there is none.
+// Four at a time as far as they rise: about half the instructions of one at a time.
+fn rising_end(list: &[u64], a: usize, e: usize, last: u64) -> usize
+    requires { ⌜ (a ≤ e) × (e ≤ length (now list)) ⌝ }
+    ensures { λ r. ⌜ Rises (now (list .entry)) a e last r ⌝ }
+{
+    let mut top = last;
+    let mut i = a;
+    while 4 <= e - i {
+        if !four_rise(list, i, top) {
+            return rising_rest(list, i, e, top);
+        }
+        top = list[i + 3];
+        i += 4;
+    }
+    rising_rest(list, i, e, top)
+}
+
+// No key from slot `a` up to `e`. Without a way out of the loop, so that it is compiled to read several slots at a time.
+fn all_gaps(list: &[u64], a: usize, e: usize) -> bool
+    requires { ⌜ (a ≤ e) × (e ≤ length (now list)) ⌝ }
+    ensures { λ r. ⌜ (T r → AllGaps (now (list .entry)) a e e) ⌝ }
+{
+    let mut seen = 0;
+    let mut i = a;
+    while i < e {
+        seen = seen | list[i];
+        i += 1;
+    }
+    seen == 0
+}
+
 // The first slot from `a` up to `e` that is no gap; `e` where there is none.
 fn gaps_end(list: &[u64], a: usize, e: usize) -> usize
     requires { ⌜ (a ≤ e) × (e ≤ length (now list)) ⌝ }
     ensures { λ r. ⌜ AllGaps (now (list .entry)) a e r ⌝ }
 {
+    if all_gaps(list, a, e) {
+        return e;
+    }
     let mut i = a;
     while i < e {
         if list[i] != 0 {

@@ -1,11 +1,12 @@
 // Finding the segment of a key, and its place in the segment, by halving. Segments may be empty.
 ghost use mathlib.Core.Path.{_≡_};
 ghost use Prim.Native.Nat.{ℕ, _+_, _*_, _/_, _≤_, _<_};
+ghost use lib.Dec.{T};
 ghost use lib.ListN.{length, take, getD};
 ghost use Rattle.slots.specs.Segments.{Segments};
 ghost use Rattle.slots.specs.Keys.{Rising, below};
 ghost use Rattle.slots.specs.Shown.{Shows, seat, Located};
-ghost use Rattle.slots.specs.Stretches.{Filled};
+ghost use Rattle.slots.specs.Stretches.{Filled, Stands};
 use crate::Place;
 use crate::counting::count_keys;
 
@@ -92,4 +93,24 @@ pub fn locate(list: &[u64], key: u64) -> Place
         at,
         present,
     }
+}
+
+// Segment `segment` holds `key`, as a halving of its 64 slots finds it with gaps taken for high; false where there is no such segment.
+pub fn stands_in(list: &[u64], segment: usize, key: u64) -> bool
+    ensures { λ r. ⌜ (T r → Stands (now (list .entry)) segment key) ⌝ }
+{
+    if list.len() / 64 <= segment {
+        return false;
+    }
+    let a = 64 * segment;
+    let mut at = 0;
+    let mut step = 32;
+    while 0 < step {
+        let x = list[a + at + step];
+        if x != 0 && x <= key {
+            at += step;
+        }
+        step /= 2;
+    }
+    list[a + at] == key
 }

@@ -1,6 +1,6 @@
 -- `forecast::Forecast::fault` meets its contract: no cell below i has a fault.
 use Prim.Native.Nat.{ℕ, _≤_, _<_, _-_}
-use mathlib.Core.Path.{_≡_, sym, ap, _∙_}
+use mathlib.Core.Path.{_≡_, refl, sym, ap, _∙_}
 use mathlib.Core.Bool.{true}
 use mathlib.Core.Logic.{inl, inr}
 use native.Mathlib.Nat.{eq-or-lt-of-le}
@@ -17,13 +17,13 @@ use Rattle.forecast.proofs.Forecast.fault.Statement.{statement}
 use Rattle.forecast.proofs.Forecast.fault.Tie as tie
 
 abbrev Inv-loop : tie.InvT-loop
-Inv-loop self p list i₀ i = (i ≤ 12) × ((ss : Segments) → Shows ss list → (j : ℕ) → j < i → isSound (faultAt p ss self j) ≡ true)
+Inv-loop p list self used markers i₀ i = (i ≤ 12) × ((ss : Segments) → Shows ss list → (j : ℕ) → j < i → isSound (faultAt p ss self j) ≡ true)
 
 abbrev μ-loop : tie.MeasureT-loop
-μ-loop self p list i₀ i = 12 - i
+μ-loop p list self used markers i₀ i = 12 - i
 
 -- there are 12 cells
-len : (c : tie.Start Inv-loop μ-loop) → length (c .args .self .cells) ≡ 12
+len : (c : tie.Start Inv-loop μ-loop) → length (c .args .t1 .cells) ≡ 12
 len c = search (needs, array-long)
 
 returns : tie.Need-returns Inv-loop μ-loop
@@ -32,8 +32,20 @@ returns c ss sh l = absurd (omega arith)
 returns-2 : tie.Need-returns-2 Inv-loop μ-loop
 returns-2 c ss sh l = sym (fault-many _ ss _ (c .if2 .taken))
 
+markers-requires : tie.Need-markers-requires Inv-loop μ-loop
+markers-requires c κs = tt
+
 loop-holds : tie.Need-loop-holds Inv-loop μ-loop
 loop-holds c = (omega arith, λ ss sh j h. absurd (omega arith))
+
+mul-cell : tie.Need-mul-cell Inv-loop μ-loop
+mul-cell c = omega arith
+
+element-copy-out-cell : tie.Need-element-copy-out-cell Inv-loop μ-loop
+element-copy-out-cell c = omega arith
+
+slice-aggregate-fault-at : tie.Need-slice-aggregate-fault-at Inv-loop μ-loop
+slice-aggregate-fault-at c = search needs
 
 fault-at-requires : tie.Need-fault-at-requires Inv-loop μ-loop
 fault-at-requires c κs = (omega arith, omega arith)
@@ -44,11 +56,11 @@ is-sound-requires c κs = tt
 returns-3 : tie.Need-returns-3 Inv-loop μ-loop
 returns-3 c ss sh l =
     let a = c .before .before in
-    let m = a .before .before in
+    let m = a .before .before .before .before in
     let s = m .before .before .before .before .before in
-    let e = a .fault-at .ensures ss sh in
+    let e = a .fault-at .ensures (s .args .t1) ss (record { cell = refl; used = refl; markers = m .before .markers .ensures }) sh in
     e
-    ∙ sym (fault-first _ ss _ (m .before .if2 .left) (m .loop .i) (omega (arith, len s)) (m .loop .inv .1 ss sh) (sym (ap isSound e) ∙ sym (c .before .is-sound .ensures) ∙ not-true _ (c .if3 .taken)))
+    ∙ sym (fault-first _ ss _ (m .before .before .if2 .left) (m .loop .i) (omega (arith, len s)) (m .loop .inv .1 ss sh) (sym (ap isSound e) ∙ sym (c .before .is-sound .ensures) ∙ not-true _ (c .if3 .taken)))
 
 add-i : tie.Need-add-i Inv-loop μ-loop
 add-i c = omega arith
@@ -59,13 +71,13 @@ loop-less c = omega arith
 loop-again : tie.Need-loop-again Inv-loop μ-loop
 loop-again c =
     let a = c .before .before in
-    let m = a .before .before in
+    let m = a .before .before .before .before in
     let s = m .before .before .before .before .before in (
       omega arith,
       λ ss sh j h.
           let h′ : j ≤ m .loop .i = omega arith in
           elim (eq-or-lt-of-le h′) [
-            | inl q ↦ ap (λ (k : ℕ). isSound (faultAt (s .args .p) ss (s .args .self) k)) q ∙ sym (ap isSound (a .fault-at .ensures ss sh)) ∙ sym (c .before .is-sound .ensures) ∙ not-false _ (c .if3 .left)
+            | inl q ↦ ap (λ (k : ℕ). isSound (faultAt (s .args .p) ss (s .args .t1) k)) q ∙ sym (ap isSound (a .fault-at .ensures (s .args .t1) ss (record { cell = refl; used = refl; markers = m .before .markers .ensures }) sh)) ∙ sym (c .before .is-sound .ensures) ∙ not-false _ (c .if3 .left)
             | inr q ↦ m .loop .inv .1 ss sh j q
           ],
     )
@@ -74,7 +86,7 @@ returns-4 : tie.Need-returns-4 Inv-loop μ-loop
 returns-4 c ss sh l =
     let m = c .before in
     let s = m .before .before .before .before .before in
-    sym (fault-none _ ss _ (m .before .if2 .left) (λ j h. m .loop .inv .1 ss sh j (omega (arith, len s))))
+    sym (fault-none _ ss _ (m .before .before .if2 .left) (λ j h. m .loop .inv .1 ss sh j (omega (arith, len s))))
 
 pub fault-spec : {M : Type 1} → statement M
 fault-spec =
@@ -84,7 +96,11 @@ fault-spec =
     μ-loop
     returns
     returns-2
+    markers-requires
     loop-holds
+    mul-cell
+    element-copy-out-cell
+    slice-aggregate-fault-at
     fault-at-requires
     is-sound-requires
     returns-3

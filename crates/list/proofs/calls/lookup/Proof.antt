@@ -10,8 +10,8 @@ use Rattle.slots.specs.Keys.{member}
 use Rattle.slots.proofs.Seats.{seat-live}
 use Rattle.rules.specs.Checks.{checkList}
 use Rattle.rules.specs.Looking.{Found, notFound}
-use Rattle.list.proofs.Valid.{shows-passed, long-passed}
-use Rattle.list.proofs.Numbers.{list-small}
+use Rattle.steps.proofs.Valid.{shows-passed, long-passed}
+use Rattle.steps.proofs.Numbers.{list-small}
 use Rattle.list.proofs.Replies.{lookup-refused, lookup-passed, looked-zero, looked-live, looked-absent}
 use Rattle.list.proofs.calls.lookup.Statement.{statement}
 use Rattle.list.proofs.calls.lookup.Tie as tie

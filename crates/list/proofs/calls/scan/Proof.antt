@@ -10,8 +10,8 @@ use Rattle.slots.specs.Segments.{Segments, segmentsOf}
 use Rattle.slots.specs.Shown.{Shows, Located}
 use Rattle.slots.proofs.Tallies.{shown-within}
 use Rattle.rules.specs.Checks.{checkList}
-use Rattle.list.proofs.Valid.{shows-passed, long-passed}
-use Rattle.list.proofs.Numbers.{list-small}
+use Rattle.steps.proofs.Valid.{shows-passed, long-passed}
+use Rattle.steps.proofs.Numbers.{list-small}
 use Rattle.list.proofs.Above.{held-there, above-absent, above-present, at-present, wrote-admits, refused-admits}
 use Rattle.list.proofs.calls.scan.Statement.{statement}
 use Rattle.list.proofs.calls.scan.Tie as tie

@@ -1,6 +1,6 @@
 -- `delete_answer` gives the answer that a step's effect comes to.
 use mathlib.Core.Path.{sym, ap, _∙_}
-use Rattle.list.specs.declared.Effect.{Effect}
+use Rattle.steps.specs.declared.Effect.{Effect}
 use Rattle.list.specs.Changes.{deleteAnswer}
 use borrow.Author.Needs.{needs}
 use Rattle.list.proofs.changing.delete_answer.Statement.{statement}

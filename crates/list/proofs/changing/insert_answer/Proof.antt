@@ -1,6 +1,6 @@
 -- `insert_answer` gives the answer that a step's effect comes to.
 use mathlib.Core.Path.{sym, ap}
-use Rattle.list.specs.declared.Effect.{Effect}
+use Rattle.steps.specs.declared.Effect.{Effect}
 use Rattle.list.specs.Changes.{insertAnswer}
 use borrow.Author.Needs.{needs}
 use Rattle.list.proofs.changing.insert_answer.Statement.{statement}

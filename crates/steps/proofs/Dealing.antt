@@ -1,0 +1,83 @@
+-- A window's keys shared out: a plan within limits fits its segments, and what is dealt by it is the window shared out.
+use mathlib.Core.Path.{_≡_, ap, _∙_}
+use mathlib.Core.List.{List, map}
+use Prim.Native.Nat.{ℕ, zero, suc, _*_, _^_, _≤_, _<_}
+use native.Mathlib.Nat.{le-trans, mul-le-mul-left, pow-zero, pow-le-pow-right}
+use native.Mathlib.Decide.{decLt}
+use native.Mathlib.Omega.{arith}
+use lib.Dec.{lit≤}
+use lib.ListN.{length, take, drop, getD, length-map, List·getD-eq-default}
+use lib.Seq.{take-all, length-take-le}
+use Rattle.lists.specs.Lists.{total, deal}
+use Rattle.slots.specs.Segments.{render}
+use Rattle.slots.specs.Windows.{window}
+use Rattle.slots.proofs.Windows.{window-zero}
+use Rattle.forecast.specs.declared.Forecast.{Forecast}
+use Rattle.forecast.specs.Cells.{usedCells, weight}
+use Rattle.rules.specs.Shares.{shares}
+use Rattle.rules.specs.SharingOut.{plan, shareOut}
+use Rattle.rules.specs.Readings.{Limits}
+use Rattle.rules.proofs.Table.{lawful, ends}
+use Rattle.rules.proofs.SharingOut.{length-plan, total-plan, inside}
+use Rattle.sharing.specs.Plans.{Planned}
+use Rattle.sharing.proofs.Rows.{high-row}
+use Rattle.steps.specs.Sweeps.{shared}
+
+module _ (h l n m : ℕ) (p : Planned h l n m) where
+  -- a window within its limits has room for its keys, and they are few
+  pub room : m ≤ 64 * 2 ^ l
+  room =
+      let r = high-row h l (p .from) (p .to) (p .level) in
+      let high : shares h .high l ≤ 64 = omega (arith, r) in
+      omega (arith, le-trans (p .limits .1) (mul-le-mul-left (2 ^ l) high))
+
+  pub low-level : l ≤ 6
+  low-level = omega (arith, p .level, p .to)
+
+  pub few-segments : 2 ^ l ≤ 64
+  few-segments = pow-le-pow-right {n = 2} (lit≤ tt) {i = l} {j = 6} low-level
+
+-- no segment gets more than it has slots
+pub plan-fits : (h l n f : ℕ) (ws : List ℕ) → Planned h l n (length ws) → (k : ℕ) → getD (plan (shares h) l f ws) k 0 ≤ 64
+unfolding plan
+plan-fits h zero n f ws p zero = omega (arith, rw (pow-zero 2) at (p .limits .1), ends h (p .from) (p .to) .0)
+plan-fits h zero n f ws p (suc k) = omega arith
+plan-fits h (suc l) n f ws p k = elim (decLt k (length ns)) [ yes i ↦ inner i | no o ↦ omega (arith, List·getD-eq-default ns 0 (outer o)) ]
+  where
+    ns : List ℕ
+    ns = plan (shares h) (suc l) f ws
+
+    outer : (k < length ns → ⊥) → length ns ≤ k
+    outer o = omega arith
+
+    inner : k < length ns → getD ns k 0 ≤ 64
+    inner i =
+        let b : Limits (shares h) 0 1 (total (window 0 k ns)) =
+        inside (shares h) (lawful h (p .from) (p .to)) (suc l) f ws (p .level) (p .limits) 0 k (omega arith) (omega (arith, length-plan (shares h) (suc l) f ws)) in
+        omega (arith, rw (pow-zero 2) at (b .1), ap total (window-zero k ns 0 i), lawful h (p .from) (p .to) .gaps 0 (omega (arith, p .level)))
+
+-- THE COUNTS of a window's first m slots, as they are planned and lent
+module _ (h l n f m : ℕ) (F : Forecast) (window lent : List ℕ) (p : Planned h l n m) (e : m ≤ length window) (q : lent ≡ plan (shares h) l f (take m (drop 0 (map (weight (usedCells F)) (take m window))))) where
+  abbrev ws : List ℕ
+  ws = map (weight (usedCells F)) (take m window)
+
+  long : length ws ≡ m
+  long = length-map (take m window) (weight (usedCells F)) ∙ length-take-le m window e
+
+  is-plan : lent ≡ plan (shares h) l f ws
+  is-plan = q ∙ ap (plan (shares h) l f) (take-all m ws (omega (arith, long)))
+
+  -- one for each segment, none above 64, and m in all
+  pub one-each : length lent ≡ 2 ^ l
+  one-each = ap length is-plan ∙ length-plan (shares h) l f ws
+
+  pub lent-fits : (k : ℕ) → getD lent k 0 ≤ 64
+  lent-fits k = rw is-plan (plan-fits h l n f ws (rw long p) k)
+
+  pub lent-total : total lent ≡ m
+  lent-total = ap total is-plan ∙ total-plan (shares h) l f ws ∙ long
+
+  -- the keys dealt by them are the window shared out
+  pub dealt : (last : List ℕ) → last ≡ render 0 (deal lent (take m window)) → last ≡ shared h l F f (take m window)
+  unfolding shareOut
+  dealt last r = r ∙ ap (λ (ns : List ℕ). render 0 (deal ns (take m window))) is-plan

@@ -1,0 +1,15 @@
+pub mod Valid
+pub mod Numbers
+pub mod FromValid
+pub mod StepCases
+pub mod Places
+pub mod ShiftedIn
+pub mod ShiftedOut
+pub mod Dealing
+pub mod InWindow
+pub mod LentWindow
+pub mod Resown
+pub mod SweptIn
+pub mod SweptOut
+pub mod InsertSteps
+pub mod DeleteSteps

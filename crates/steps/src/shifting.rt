@@ -1,0 +1,96 @@
+// Steps within one segment: a key put in where it has room, or taken out.
+ghost use mathlib.Core.Path.{_≡_};
+ghost use Prim.Native.Nat.{_+_, _-_, _*_, _≤_, _<_};
+ghost use Rattle.rules.specs.declared.Request.{Request};
+ghost use Rattle.steps.specs.Stepped.{Inserting, Deleting, Unswept, Steps, idle};
+use crate::Effect;
+use crate::Step;
+ghost use lib.Dec.{ltb};
+ghost use Rattle.rules.specs.Shares.{shares, floor};
+use forecast::Forecast;
+use slots::Place;
+
+// A step that changes nothing.
+pub fn nothing(effect: Effect, forecast: Forecast, keys: usize) -> Step
+    ensures { λ r. ⌜ r ≡ idle effect forecast keys ⌝ }
+{
+    Step {
+        effect,
+        forecast,
+        moves: 0,
+        swept: false,
+        sparse: false,
+        keys,
+    }
+}
+
+// The segment has room, and the moves are within what is left. `forecast`, the one before, is named in the contract alone.
+pub fn shift_in(
+    list: &mut [u64],
+    forecast: Forecast,
+    noted: Forecast,
+    key: u64,
+    place: Place,
+    h: usize,
+    keys: usize,
+    left: u64,
+) -> Step
+    requires { ⌜ Inserting (now list) forecast noted h keys key place × (place .held < 64) × (place .held - place .at + 1 ≤ left) ⌝ }
+    ensures { λ r. ⌜ Steps left (Request.Insert key) (now (list .entry)) forecast r (now (list .exit)) ⌝ }
+{
+    let held = place.held;
+    let at = place.at;
+    let segment = place.segment;
+    let a = 64 * segment;
+    let e = a + 64;
+    let moves = (held - at + 1) as u64;
+    slots::movement::open_gap(&mut list[a..e], held, at, key);
+    Step {
+        effect: Effect::Done,
+        forecast: noted,
+        moves,
+        swept: false,
+        sparse: false,
+        keys: keys + 1,
+    }
+}
+
+// A live key is taken out, and the others of its segment close up. Asked for where no window is swept and the moves are within what is
+// left. `forecast`, the one before, is named in the contract alone.
+pub fn shift_out(
+    list: &mut [u64],
+    forecast: Forecast,
+    dropped: Forecast,
+    key: u64,
+    place: Place,
+    h: usize,
+    keys: usize,
+    left: u64,
+) -> Step
+    requires { ⌜ Deleting (now list) forecast dropped h keys key place × Unswept (now list) h key × (place .held - place .at - 1 ≤ left) ⌝ }
+    ensures { λ r. ⌜ Steps left (Request.Delete key) (now (list .entry)) forecast r (now (list .exit)) ⌝ }
+{
+    let held = place.held;
+    let at = place.at;
+    let segment = place.segment;
+    let a = 64 * segment;
+    let e = a + 64;
+    let moves = (held - at - 1) as u64;
+    slots::movement::close_gap(&mut list[a..e], held, at);
+    Step {
+        effect: Effect::Done,
+        forecast: dropped,
+        moves,
+        swept: false,
+        sparse: is_sparse(keys - 1, h),
+        keys: keys - 1,
+    }
+}
+
+// A list of height `h` with so many keys is sparse.
+pub fn is_sparse(keys: usize, h: usize) -> bool
+    requires { ⌜ (1 ≤ h) × (h ≤ 6) ⌝ }
+    ensures { λ r. ⌜ r ≡ ltb keys (floor (shares h)) ⌝ }
+{
+    keys < 13 * sharing::table::power(h)
+}

@@ -1,0 +1,102 @@
+// A step on a list that has been checked, within what is left of an allowance.
+ghost use mathlib.Core.Path.{_≡_};
+ghost use Prim.Native.Nat.{_+_, _*_, _≤_, _<_};
+ghost use mathlib.Core.Bool.{not};
+ghost use lib.Dec.{T};
+ghost use lib.ListN.{length};
+ghost use Rattle.slots.specs.Segments.{keys, segmentsOf};
+ghost use Rattle.slots.specs.Keys.{member, predecessor};
+ghost use Rattle.slots.specs.Shown.{Shows, Located};
+ghost use Rattle.rules.specs.declared.Request.{Request};
+ghost use Rattle.steps.specs.Stepped.{Valid, Steps};
+use crate::Effect;
+use crate::Step;
+use crate::resowing;
+use crate::shifting;
+use forecast::Forecast;
+use slots::Place;
+
+// The key before a place where a key is missing, or 0 for the front.
+fn key_before(list: &[u64], place: Place, key: u64) -> u64
+    requires { ⌜ (64 * place .segment + 64 ≤ length (now list)) × (place .at ≤ 64) ⌝ }
+    ensures { λ r. ⌜ (Shows (segmentsOf (now (list .entry))) (now (list .entry)) → Located key (segmentsOf (now (list .entry))) place → T (not (member key (keys (segmentsOf (now (list .entry)))))) → r ≡ predecessor key (segmentsOf (now (list .entry)))) ⌝ }
+{
+    let at = place.at;
+    if at == 0 {
+        return 0;
+    }
+    let segment = place.segment;
+    let i = 64 * segment + at - 1;
+    list[i]
+}
+
+pub fn step_insert(
+    list: &mut [u64],
+    forecast: Forecast,
+    key: u64,
+    h: usize,
+    keys: usize,
+    left: u64,
+) -> Step
+    requires { ⌜ Valid (now list) forecast h keys ⌝ }
+    ensures { λ r. ⌜ Steps left (Request.Insert key) (now (list .entry)) forecast r (now (list .exit)) ⌝ }
+{
+    if key == 0 {
+        return shifting::nothing(Effect::KeyZero, forecast, keys);
+    }
+    let place = slots::finding::locate(list, key);
+    if place.present {
+        return shifting::nothing(Effect::KeyPresent, forecast, keys);
+    }
+    if list.len() / 2 <= keys {
+        return shifting::nothing(Effect::Full, forecast, keys);
+    }
+    let held = place.held;
+    let at = place.at;
+    // A shift's moves follow from the place: tested before noting, only one forecast goes on.
+    if held < 64 {
+        if left <= (held - at) as u64 {
+            return shifting::nothing(Effect::Over, forecast, keys);
+        }
+    }
+    let before = key_before(list, place, key);
+    let segment = place.segment;
+    let noted = forecast.note_insert(6 + h, before, segment);
+    if place.held < 64 {
+        return shifting::shift_in(list, forecast, noted, key, place, h, keys, left);
+    }
+    resowing::resow_in(list, forecast, noted, key, place, h, keys, left)
+}
+
+pub fn step_delete(
+    list: &mut [u64],
+    forecast: Forecast,
+    key: u64,
+    h: usize,
+    keys: usize,
+    left: u64,
+) -> Step
+    requires { ⌜ Valid (now list) forecast h keys ⌝ }
+    ensures { λ r. ⌜ Steps left (Request.Delete key) (now (list .entry)) forecast r (now (list .exit)) ⌝ }
+{
+    if key == 0 {
+        return shifting::nothing(Effect::KeyZero, forecast, keys);
+    }
+    let place = slots::finding::locate(list, key);
+    if !place.present {
+        return shifting::nothing(Effect::KeyAbsent, forecast, keys);
+    }
+    let held = place.held;
+    let at = place.at;
+    // As for an insert: tested before the cell is dropped.
+    if 8 <= held {
+        if left < (held - at - 1) as u64 {
+            return shifting::nothing(Effect::Over, forecast, keys);
+        }
+    }
+    let dropped = forecast.drop_marker(key);
+    if 8 <= place.held {
+        return shifting::shift_out(list, forecast, dropped, key, place, h, keys, left);
+    }
+    resowing::resow_out(list, forecast, dropped, key, place, h, keys, left)
+}

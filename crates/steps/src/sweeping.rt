@@ -1,0 +1,87 @@
+// A sweep of a window, in place: its keys packed, the new one put in or the old one taken out, and all shared out.
+ghost use mathlib.Core.Path.{_≡_};
+ghost use Prim.Native.Nat.{_+_, _-_, _≤_};
+ghost use mathlib.Core.Bool.{not};
+ghost use lib.Dec.{T, eqb};
+ghost use Rattle.lists.specs.Choice.{if_then_else_};
+ghost use Rattle.forecast.specs.Cells.{usedCells, weight};
+ghost use Rattle.forecast.specs.Held.{Tidy};
+ghost use lib.ListN.{length, take};
+ghost use Rattle.slots.specs.Segments.{keys, segmentsOf};
+ghost use Rattle.slots.specs.Keys.{member, put, cut};
+ghost use Rattle.steps.specs.Sweeps.{Weighs, Packs, Windowed, shared};
+use forecast::Forecast;
+
+// The first `m` slots, which are keys, shared out over the whole window.
+fn deal_out(window: &mut [u64], m: usize, forecast: Forecast, front: usize, h: usize, level: usize)
+    requires { ⌜ Packs h level m (now window) × Weighs forecast × (front ≤ 12) ⌝ }
+    ensures { λ _. ⌜ now (window .exit) ≡ shared h level forecast front (take m (now (window .entry))) ⌝ }
+{
+    let mut at = [0; 12];
+    let mut weights = [0; 12];
+    let mut counts = [0; 64];
+    let r = sharing::marking::mark(window, m, forecast, &mut at, &mut weights);
+    let n = sharing::table::power(level);
+    sharing::planning::plan_window(
+        &at[..r],
+        &weights[..r],
+        0,
+        m,
+        front,
+        h,
+        level,
+        &mut counts[..n],
+    );
+    slots::movement::spread(window, &counts[..n], m);
+}
+
+// A window swept with `key` put in. `counts` are those of its segments before.
+pub fn sweep_in(
+    window: &mut [u64],
+    counts: &[usize],
+    key: u64,
+    forecast: Forecast,
+    front: usize,
+    h: usize,
+    level: usize,
+)
+    requires { ⌜ Windowed h level (length (keys (segmentsOf (now window))) + 1) (now counts) (now window) × Weighs forecast × (front ≤ 12) ⌝ }
+    requires { ⌜ T (not (member key (keys (segmentsOf (now window))))) ⌝ }
+    ensures { λ _. ⌜ now (window .exit) ≡ shared h level forecast front (put key (keys (segmentsOf (now (window .entry))))) ⌝ }
+{
+    let m = slots::movement::pack(window, counts);
+    let p = slots::finding::position(window, m, key);
+    slots::movement::open_gap(window, m, p, key);
+    deal_out(window, m + 1, forecast, front, h, level);
+}
+
+// A window swept with `key` taken out. `counts` are those of its segments before.
+pub fn sweep_out(
+    window: &mut [u64],
+    counts: &[usize],
+    key: u64,
+    forecast: Forecast,
+    front: usize,
+    h: usize,
+    level: usize,
+)
+    requires { ⌜ Windowed h level (length (keys (segmentsOf (now window))) - 1) (now counts) (now window) × Weighs forecast × (front ≤ 12) ⌝ }
+    requires { ⌜ T (member key (keys (segmentsOf (now window)))) ⌝ }
+    ensures { λ _. ⌜ now (window .exit) ≡ shared h level forecast front (cut key (keys (segmentsOf (now (window .entry))))) ⌝ }
+{
+    let m = slots::movement::pack(window, counts);
+    let p = slots::finding::position(window, m, key);
+    slots::movement::close_gap(window, m, p);
+    deal_out(window, m - 1, forecast, front, h, level);
+}
+
+// The front's weight, in a window that begins at segment 0.
+pub fn front_weight(forecast: Forecast, first: usize) -> usize
+    requires { ⌜ Tidy forecast ⌝ }
+    ensures { λ r. ⌜ r ≡ (if eqb first 0 then weight (usedCells forecast) 0 else 0) ⌝ }
+{
+    if first == 0 {
+        return forecast.weight_of(0);
+    }
+    0
+}

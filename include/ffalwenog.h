@@ -23,8 +23,9 @@
        9  run: stopped before a short record, a wrong mark or a wrong kind
       10  run: stopped before a record whose moves would pass the allowance
      100  the forecast is not 37 words, the totals are not 4, or the reply is shorter than listed: tested before all else
-   The numbers are tested in this order, but 100 first. 100 touches nothing. 1 to 8 leave list, forecast, output and totals, and make the
-   listed words of the reply 0. 9 and 10 keep the work of the records before the one that stopped the run, and the reply tells of it. */
+   The numbers are tested in this order, but 100 first. 100 touches nothing. 1 to 8 leave list, forecast (but for ff_make), output and
+   totals, and make the listed words of the reply 0. 9 and 10 keep the work of the records before the one that stopped the run, and the
+   reply tells of it. */
 #ifndef FFALWENOG_H
 #define FFALWENOG_H
 

@@ -1,9 +1,11 @@
 -- Insert and delete: from what the calls below them promise to what they give.
 use Prim.Native.Nat.{ℕ, _≤_}
 use mathlib.Core.Path.{_≡_, ap, _∙_}
-use mathlib.Core.Bool.{true, _||_}
+use mathlib.Core.Bool.{_||_}
+use lib.Dec.{T}
 use mathlib.Core.List.{List, [], _∷_}
 use lib.ListN.{length, drop, set}
+use Rattle.lists.proofs.Tests.{nor}
 use Rattle.forecast.specs.declared.Forecast.{Forecast}
 use Rattle.rules.specs.Calls as rules
 use Rattle.list.specs.declared.InsertReply.{InsertReply}
@@ -15,10 +17,10 @@ use Rattle.rules.specs.Runs.{one}
 use Rattle.host.specs.Words.{forecastIn, forecastWords}
 use Rattle.host.specs.Calls.{insert, delete, notForecast, short, Gives}
 use Rattle.host.proofs.Over.{over-one, over-two}
-use Rattle.host.proofs.Sized.{neither, is-forecast, is-long, misfit, fitted}
+use Rattle.host.proofs.Sized.{is-forecast, is-long, misfit, fitted}
 
 module _ (list forecast : List ℕ) (key : ℕ) (reply : List ℕ) where
-  pub insert-misfit : (notForecast forecast || short reply 1) ≡ true → Gives (insert list forecast key reply) 100 (list ∷ forecast ∷ reply ∷ [])
+  pub insert-misfit : T (notForecast forecast || short reply 1) → Gives (insert list forecast key reply) 100 (list ∷ forecast ∷ reply ∷ [])
   unfolding insert
   insert-misfit e = misfit (notForecast forecast || short reply 1) _ _ e
 
@@ -33,10 +35,10 @@ module _ (list forecast : List ℕ) (key : ℕ) (reply : List ℕ) where
       let words = w ∙ ap forecastWords (a .forecast ∙ ap (λ (c : rules.Called). c .forecast) is) in
       let moves = em ∙ ap (λ (x : Answer). x .moves) answer in
       let said = over-one reply m l1 ∙ (λ i. moves i ∷ drop 1 reply) in
-      fitted (notForecast forecast || short reply 1) _ _ _ _ (neither (notForecast forecast) (short reply 1) (is-forecast forecast l) (is-long reply 1 l1))
+      fitted (notForecast forecast || short reply 1) _ _ _ _ (nor (notForecast forecast) (short reply 1) (is-forecast forecast l) (is-long reply 1 l1))
       (record { number = en ∙ ap (λ (x : Answer). x .number) answer; slices = λ i. slots i ∷ words i ∷ said i ∷ [] })
 
-  pub delete-misfit : (notForecast forecast || short reply 2) ≡ true → Gives (delete list forecast key reply) 100 (list ∷ forecast ∷ reply ∷ [])
+  pub delete-misfit : T (notForecast forecast || short reply 2) → Gives (delete list forecast key reply) 100 (list ∷ forecast ∷ reply ∷ [])
   unfolding delete
   delete-misfit e = misfit (notForecast forecast || short reply 2) _ _ e
 
@@ -52,5 +54,5 @@ module _ (list forecast : List ℕ) (key : ℕ) (reply : List ℕ) where
       let moves = em ∙ ap (λ (x : Answer). x .moves) answer in
       let sparse = ep ∙ ap (λ (x : Answer). one (x .sparse)) answer in
       let said = over-two reply m p l1 ∙ (λ i. moves i ∷ sparse i ∷ drop 2 reply) in
-      fitted (notForecast forecast || short reply 2) _ _ _ _ (neither (notForecast forecast) (short reply 2) (is-forecast forecast l) (is-long reply 2 l1))
+      fitted (notForecast forecast || short reply 2) _ _ _ _ (nor (notForecast forecast) (short reply 2) (is-forecast forecast l) (is-long reply 2 l1))
       (record { number = en ∙ ap (λ (x : Answer). x .number) answer; slices = λ i. slots i ∷ words i ∷ said i ∷ [] })

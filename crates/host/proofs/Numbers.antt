@@ -27,10 +27,10 @@ unequal m n = (neqb→ne m n, λ t w. w (eqb→eq m n (double-not (eqb m n) t)))
 shorter : (m n : ℕ) → Decides (ltb m n) (row100 (m < n))
 shorter m n = (ltb→lt m n, λ t w. omega (arith, nltb→le m n t))
 
--- one or the other
-either : (a b : Bool) (A B : Type 0) → Decides a (row100 A) → Decides b (row100 B) → Decides (a || b) (row100 (A ⊎ B))
-either true b A B d e = (λ t. inl (d .0 tt), λ t w. t)
-either false b A B d e = (λ t. inr (e .0 t), λ t w. elim w [ inl x ↦ d .1 tt x | inr y ↦ e .1 t y ])
+-- one size or the other
+either-size : (a b : Bool) (A B : Type 0) → Decides a (row100 A) → Decides b (row100 B) → Decides (a || b) (row100 (A ⊎ B))
+either-size true b A B d e = (λ t. inl (d .0 tt), λ t w. t)
+either-size false b A B d e = (λ t. inr (e .0 t), λ t w. elim w [ inl x ↦ d .1 tt x | inr y ↦ e .1 t y ])
 
 -- THE CALLS
 pub roomy : (ws : List ℕ) → length (forecastIn ws .cells) ≡ 12
@@ -70,7 +70,7 @@ scan-tells list from output reply =
 
 -- a forecast and a reply of n words
 both : (forecast reply : List ℕ) (n : ℕ) → Decides (notForecast forecast || short reply n) (row100 (NotForecast forecast ⊎ (length reply < n)))
-both forecast reply n = either (notForecast forecast) (short reply n) _ _ (unequal (length forecast) 37) (shorter (length reply) n)
+both forecast reply n = either-size (notForecast forecast) (short reply n) _ _ (unequal (length forecast) 37) (shorter (length reply) n)
 
 pub insert-tells : InsertTells
 unfolding insert
@@ -101,8 +101,8 @@ module _ (list forecast requests : List ℕ) (allowance : ℕ) (totals reply : L
 
   sizes : Decides (notForecast forecast || (notTotals totals || short reply 4)) (row100 (NotForecast forecast ⊎ ((length totals ≢ 4) ⊎ (length reply < 4))))
   sizes =
-      either (notForecast forecast) (notTotals totals || short reply 4) _ _ (unequal (length forecast) 37)
-      (either (notTotals totals) (short reply 4) _ _ (unequal (length totals) 4) (shorter (length reply) 4))
+      either-size (notForecast forecast) (notTotals totals || short reply 4) _ _ (unequal (length forecast) 37)
+      (either-size (notTotals totals) (short reply 4) _ _ (unequal (length totals) 4) (shorter (length reply) 4))
 
 pub run-tells : RunTells
 unfolding run

@@ -1,7 +1,7 @@
 -- Make, check, lookup and scan: from what the calls below them promise to what they give.
 use Prim.Native.Nat.{ℕ, _≤_}
 use mathlib.Core.Path.{_≡_, refl, ap, _∙_}
-use mathlib.Core.Bool.{true}
+use lib.Dec.{T}
 use mathlib.Core.List.{List, [], _∷_}
 use lib.ListN.{length, drop, set}
 use Rattle.forecast.specs.declared.Forecast.{Forecast}
@@ -20,7 +20,7 @@ use Rattle.host.proofs.Over.{over-two}
 use Rattle.host.proofs.Sized.{is-forecast, is-long, misfit, fitted}
 
 module _ (list forecast : List ℕ) where
-  pub make-misfit : notForecast forecast ≡ true → Gives (make list forecast) 100 (list ∷ forecast ∷ [])
+  pub make-misfit : T (notForecast forecast) → Gives (make list forecast) 100 (list ∷ forecast ∷ [])
   unfolding make
   make-misfit e = misfit (notForecast forecast) _ _ e
 
@@ -32,7 +32,7 @@ module _ (list forecast : List ℕ) where
       fitted (notForecast forecast) _ _ _ _ (is-forecast forecast l)
       (record { number = e ∙ a .answer; slices = λ i. a .slots-left i ∷ words i ∷ [] })
 
-  pub check-misfit : notForecast forecast ≡ true → Gives (check list forecast) 100 []
+  pub check-misfit : T (notForecast forecast) → Gives (check list forecast) 100 []
   unfolding check
   check-misfit e = misfit (notForecast forecast) _ _ e
 
@@ -44,7 +44,7 @@ module _ (list forecast : List ℕ) where
       (record { number = e ∙ a .answer ∙ ap (checks.check list) f; slices = refl })
 
 module _ (list : List ℕ) (key : ℕ) (reply : List ℕ) where
-  pub lookup-misfit : short reply 2 ≡ true → Gives (lookup list key reply) 100 (reply ∷ [])
+  pub lookup-misfit : T (short reply 2) → Gives (lookup list key reply) 100 (reply ∷ [])
   unfolding lookup
   lookup-misfit e = misfit (short reply 2) _ _ e
 
@@ -58,7 +58,7 @@ module _ (list : List ℕ) (key : ℕ) (reply : List ℕ) where
       fitted (short reply 2) _ _ _ _ (is-long reply 2 l) (record { number = en ∙ ap (λ (f : Found). f .number) (a .answer); slices = λ i. said i ∷ [] })
 
 module _ (list : List ℕ) (from : ℕ) (output reply : List ℕ) where
-  pub scan-misfit : short reply 2 ≡ true → Gives (scan list from output reply) 100 (output ∷ reply ∷ [])
+  pub scan-misfit : T (short reply 2) → Gives (scan list from output reply) 100 (output ∷ reply ∷ [])
   unfolding scan
   scan-misfit e = misfit (short reply 2) _ _ e
 

@@ -1,9 +1,11 @@
 -- The run: from what the run below it promises to what it gives.
 use Prim.Native.Nat.{ℕ, _≤_}
 use mathlib.Core.Path.{_≡_, ap, _∙_}
-use mathlib.Core.Bool.{true, false, _||_}
+use mathlib.Core.Bool.{not, _||_}
+use lib.Dec.{T}
 use mathlib.Core.List.{List, [], _∷_}
 use lib.ListN.{length, drop}
+use Rattle.lists.proofs.Tests.{nor}
 use Rattle.forecast.specs.declared.Forecast.{Forecast}
 use Rattle.rules.specs.declared.Totals.{Totals}
 use Rattle.rules.specs.Calls as rules
@@ -11,16 +13,16 @@ use Rattle.run.specs.declared.Run.{Run}
 use Rattle.run.specs.Admits.{RunAdmits}
 use Rattle.host.specs.Words.{forecastIn, forecastWords, totalsIn, totalsWords}
 use Rattle.host.specs.Calls.{run, notForecast, notTotals, short, over, Gives}
-use Rattle.host.proofs.Sized.{neither, is-forecast, is-totals, is-long, misfit, fitted}
+use Rattle.host.proofs.Sized.{is-forecast, is-totals, is-long, misfit, fitted}
 
 module _ (list forecast requests : List ℕ) (allowance : ℕ) (totals reply : List ℕ) where
-  pub run-misfit : (notForecast forecast || (notTotals totals || short reply 4)) ≡ true
+  pub run-misfit : T (notForecast forecast || (notTotals totals || short reply 4))
       → Gives (run list forecast requests allowance totals reply) 100 (list ∷ forecast ∷ totals ∷ reply ∷ [])
   unfolding run
   run-misfit e = misfit (notForecast forecast || (notTotals totals || short reply 4)) _ _ e
 
-  fits : length forecast ≡ 37 → length totals ≡ 4 → 4 ≤ length reply → (notForecast forecast || (notTotals totals || short reply 4)) ≡ false
-  fits l m n = neither (notForecast forecast) _ (is-forecast forecast l) (neither (notTotals totals) _ (is-totals totals m) (is-long reply 4 n))
+  fits : length forecast ≡ 37 → length totals ≡ 4 → 4 ≤ length reply → T (not (notForecast forecast || (notTotals totals || short reply 4)))
+  fits l m n = nor (notForecast forecast) _ (is-forecast forecast l) (nor (notTotals totals) _ (is-totals totals m) (is-long reply 4 n))
 
   pub run-given : (F : Forecast) (T : Totals) (r : Run) (list' forecast' totals' reply' : List ℕ) → length forecast ≡ 37 → length totals ≡ 4 → 4 ≤ length reply
       → F ≡ forecastIn forecast → T ≡ totalsIn totals → RunAdmits list F requests allowance T r list' → forecast' ≡ forecastWords (r .reply .forecast)

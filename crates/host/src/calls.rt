@@ -31,7 +31,8 @@ pub extern "C" fn ff_check(list: &[u64], forecast: &[u64]) -> u64
         return MISFIT;
     }
     let given = words::read_forecast(forecast);
-    list::telling::check_number(list::calls::check(list, given))
+    let passed = list::telling::check_number(list::calls::check(list, given));
+    passed
 }
 
 // Whether a key is live, and where.

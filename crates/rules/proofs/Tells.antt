@@ -18,6 +18,12 @@ abbrev pub Numbered : List Row → Type 0
 Numbered [] = Unit {0}
 Numbered (r ∷ rs) = (r .no ≢ 0) × Numbered rs
 
+-- a number that is n where n is not 0, and else tells further rows, tells them after those that n tells
+pub tells-after : (rs rest : List Row) (n m : ℕ) → Numbered rs → Tells rs n → (n ≢ 0 → m ≡ n) → (n ≡ 0 → Tells rest m) → Tells (rs ++ rest) m
+tells-after [] rest n m k t same more = more t
+tells-after (r ∷ rs) rest n m k (inl (w, q)) same more = inl (w, same (λ z. k .0 (sym q ∙ z)) ∙ q)
+tells-after (r ∷ rs) rest n m k (inr (w, t)) same more = inr (w, tells-after rs rest n m (k .1) t same more)
+
 module _ {A : Type 0} (number : A → ℕ) where
   -- one test more in front tells one row more
   pub tells-if : (b : Bool) (r : Row) (rs : List Row) (x y : A) → number x ≡ r .no → Decides b r → (T (not b) → Tells rs (number y))
@@ -28,15 +34,7 @@ module _ {A : Type 0} (number : A → ℕ) where
   -- what is asked only where n is 0 tells further rows after those that n tells
   pub tells-more : (rs rest : List Row) (n : ℕ) (x y : A) → Numbered rs → Tells rs n → number x ≡ n → (n ≡ 0 → Tells rest (number y))
       → Tells (rs ++ rest) (number (if not (eqb n 0) then x else y))
-  tells-more [] rest n x y k t e more = rw (eq-eqb n 0 t) (more t)
-  tells-more (r ∷ rs) rest n x y k (inl (w, q)) e more = inl (w, rw (ne-eqb n 0 (λ z. k .0 (sym q ∙ z))) (e ∙ q))
-  tells-more (r ∷ rs) rest n x y k (inr (w, t)) e more = inr (w, tells-more rs rest n x y (k .1) t e more)
-
--- a number that is n where n is not 0, and else tells further rows, tells them after those that n tells
-pub tells-after : (rs rest : List Row) (n m : ℕ) → Numbered rs → Tells rs n → (n ≢ 0 → m ≡ n) → (n ≡ 0 → Tells rest m) → Tells (rs ++ rest) m
-tells-after [] rest n m k t same more = more t
-tells-after (r ∷ rs) rest n m k (inl (w, q)) same more = inl (w, same (λ z. k .0 (sym q ∙ z)) ∙ q)
-tells-after (r ∷ rs) rest n m k (inr (w, t)) same more = inr (w, tells-after rs rest n m (k .1) t same more)
+  tells-more rs rest n x y k t e more = tells-after rs rest n _ k t (λ z. rw (ne-eqb n 0 z) e) (λ z. rw (eq-eqb n 0 z) (more z))
 
 -- the number is 0 exactly where none of the rows applies
 pub tells-none : (rs : List Row) (n : ℕ) → Numbered rs → Tells rs n → (n ≡ 0) ↔ NoneOf rs

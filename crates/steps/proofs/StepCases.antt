@@ -1,5 +1,5 @@
 -- A step by cases: one law for each way through the tests of `stepOf`, on what the rules give as the request's outcome.
-use mathlib.Core.Path.{_≡_, refl, sym, ap}
+use mathlib.Core.Path.{_≡_, refl, sym, ap, _∙_}
 use mathlib.Core.Bool.{Bool}
 use mathlib.Core.Logic.{_≢_}
 use mathlib.Core.List.{List}
@@ -14,12 +14,12 @@ use Rattle.forecast.specs.declared.Forecast.{Forecast}
 use Rattle.forecast.specs.Cells.{forecastOf}
 use Rattle.forecast.specs.Steps.{retargeted}
 use Rattle.rules.specs.declared.Request.{Request}
-use Rattle.rules.specs.Placing.{refusedBy, accept, outcome}
-use Rattle.rules.specs.Checks.{sharesOf}
+use Rattle.rules.specs.Placing.{Outcome, refusedBy, accept}
 use Rattle.rules.specs.Calls.{roomOf}
 use Rattle.rules.proofs.Requests.{lent}
 use Rattle.steps.specs.declared.Effect.the-variants.{Over, Done}
-use Rattle.steps.specs.Stepped.{idle, effectOf, Stepped, stepOf, Steps}
+use Rattle.steps.specs.declared.Step.{Step}
+use Rattle.steps.specs.Stepped.{idle, effectOf, Stepped, doneBy, stepOf, Steps}
 
 -- THE STEP by what the rules give for the request
 module _ (left : ℕ) (q : Request) (slots : List ℕ) (F : Forecast) where
@@ -33,47 +33,36 @@ module _ (left : ℕ) (q : Request) (slots : List ℕ) (F : Forecast) where
   refused-step h n = rw (le-ltb left (lent q slots F .answer .moves) h, ne-eqb (lent q slots F .answer .number) 0 n)
 
   abbrev pub accepted : Stepped
-  accepted = record {
-    step = record {
-      effect = Done;
-      forecast = forecastOf (lent q slots F .room .cells);
-      moves = lent q slots F .answer .moves;
-      swept = lent q slots F .swept;
-      sparse = lent q slots F .answer .sparse;
-      keys = length (keys (lent q slots F .room .segments));
-    };
-    slots = render 0 (lent q slots F .room .segments);
-  }
+  accepted = doneBy (lent q slots F)
 
   pub accepted-step : lent q slots F .answer .moves ≤ left → lent q slots F .answer .number ≡ 0 → stepOf left q slots F ≡ accepted
   unfolding stepOf
   accepted-step h n = rw (le-ltb left (lent q slots F .answer .moves) h, eq-eqb (lent q slots F .answer .number) 0 n)
 
--- AND THE OTHER WAY: what a step is, of an outcome that is known
+-- OF AN OUTCOME THAT IS KNOWN: what the code's step is
 module _ (left : ℕ) (q : Request) (slots : List ℕ) (F : Forecast) where
+  stepped : (r : Step) (slots′ : List ℕ) (d : Stepped) → stepOf left q slots F ≡ d → r ≡ d .step → slots′ ≡ d .slots → Steps left q slots F r slots′
+  stepped r slots′ d e p w = record { step = p ∙ sym (ap (λ (x : Stepped). x .step) e); slots-left = w ∙ sym (ap (λ (x : Stepped). x .slots) e) }
+
   -- refused by number k: nothing changes
-  pub step-refused : (n k : ℕ) → length (live slots) ≡ n → outcome (sharesOf slots) q (roomOf slots F) ≡ refusedBy k (roomOf slots F) → k ≢ 0 → Steps left q slots F (idle (effectOf k) F n) slots
-  unfolding stepOf
-  step-refused n k many e z = record {
-    step = rw (e, le-ltb left 0 (omega arith), ne-eqb k 0 z) (ap (idle (effectOf k) F) (sym many));
-    slots-left = rw (e, le-ltb left 0 (omega arith), ne-eqb k 0 z) refl;
-  }
+  pub step-refused : (n k : ℕ) → length (live slots) ≡ n → lent q slots F ≡ refusedBy k (roomOf slots F) → k ≢ 0 → Steps left q slots F (idle (effectOf k) F n) slots
+  step-refused n k many e z =
+      let number : lent q slots F .answer .number ≡ k = ap (λ (o : Outcome). o .answer .number) e in
+      let moves : lent q slots F .answer .moves ≡ 0 = ap (λ (o : Outcome). o .answer .moves) e in
+      stepped _ slots _ (refused-step left q slots F (omega arith) (λ y. z (sym number ∙ y))) (λ i. idle (effectOf (sym number i)) F (sym many i)) refl
 
   -- accepted, with these segments, cells and m moves
-  module _ (ss : Segments) (cs : List Cell) (m : ℕ) (b p : Bool) (e : outcome (sharesOf slots) q (roomOf slots F) ≡ accept ss cs m b p) where
+  module _ (ss : Segments) (cs : List Cell) (m : ℕ) (b p : Bool) (e : lent q slots F ≡ accept ss cs m b p) where
+    moves : lent q slots F .answer .moves ≡ m
+    moves = ap (λ (o : Outcome). o .answer .moves) e
+
     -- over what is left: nothing changes
     pub step-over : (n : ℕ) → length (live slots) ≡ n → left < m → Steps left q slots F (idle Over F n) slots
-    unfolding stepOf
-    step-over n many h = record {
-      step = rw (e, lt-ltb left m h) (ap (idle Over F) (sym many));
-      slots-left = rw (e, lt-ltb left m h) refl;
-    }
+    step-over n many h = stepped _ slots _ (over-step left q slots F (omega (arith, moves))) (ap (idle Over F) (sym many)) refl
 
     -- within it: done
     pub step-done : (N : Forecast) (k : ℕ) (slots′ : List ℕ) → m ≤ left → N ≡ forecastOf (retargeted (segmentOf ss) cs) → k ≡ length (keys ss) → slots′ ≡ render 0 ss
         → Steps left q slots F (record { effect = Done; forecast = N; moves = m; swept = b; sparse = p; keys = k }) slots′
-    unfolding stepOf
-    step-done N k slots′ h f l w = record {
-      step = rw (e, le-ltb left m h) (λ i. record { effect = Done; forecast = f i; moves = m; swept = b; sparse = p; keys = l i });
-      slots-left = rw (e, le-ltb left m h) w;
-    }
+    step-done N k slots′ h f l w =
+        stepped _ slots′ (doneBy (accept ss cs m b p)) (accepted-step left q slots F (omega (arith, moves)) (ap (λ (o : Outcome). o .answer .number) e) ∙ ap doneBy e)
+        (λ i. record { effect = Done; forecast = f i; moves = m; swept = b; sparse = p; keys = l i }) w

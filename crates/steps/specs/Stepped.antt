@@ -41,23 +41,27 @@ pub record Stepped : Type 0 where
   pub step : Step
   pub slots : List ℕ
 
+-- What an accepted request's step does and leaves.
+abbrev pub doneBy : Outcome → Stepped
+doneBy o = record {
+  step = record {
+    effect = Done;
+    forecast = forecastOf (o .room .cells);
+    moves = o .answer .moves;
+    swept = o .swept;
+    sparse = o .answer .sparse;
+    keys = length (keys (o .room .segments));
+  };
+  slots = render 0 (o .room .segments);
+}
+
 -- The request's outcome by the rules, unless its moves are over what is left of the allowance.
 unfoldable pub stepOf : ℕ → Request → List ℕ → Forecast → Stepped
 stepOf left q slots F =
     let o : Outcome = outcome (sharesOf slots) q (roomOf slots F) in
     if ltb left (o .answer .moves) then record { step = idle Over F (length (live slots)); slots = slots }
     else if not (eqb (o .answer .number) 0) then record { step = idle (effectOf (o .answer .number)) F (length (live slots)); slots = slots }
-    else record {
-      step = record {
-        effect = Done;
-        forecast = forecastOf (o .room .cells);
-        moves = o .answer .moves;
-        swept = o .swept;
-        sparse = o .answer .sparse;
-        keys = length (keys (o .room .segments));
-      };
-      slots = render 0 (o .room .segments);
-    }
+    else doneBy o
 
 -- The step's reply and the slots left are those.
 pub record Steps (left : ℕ) (q : Request) (slots : List ℕ) (F : Forecast) (r : Step) (slots′ : List ℕ) : Type 0 where

@@ -1,6 +1,8 @@
 -- `ff_delete`: the delete on the forecast that the words show, its words then, and the two words of the reply.
+use Rattle.lists.proofs.Tests.{or-left, or-right}
+use Rattle.host.specs.Calls.{notForecast, short}
 use Rattle.host.proofs.ChangeGiven.{delete-misfit, delete-given}
-use Rattle.host.proofs.Sized.{first-wrong, second-wrong, not-forecast, is-forecast, is-short}
+use Rattle.host.proofs.Sized.{not-forecast, is-short}
 use borrow.Author.Needs.{needs}
 use Rattle.host.proofs.changing.ff_delete.Statement.{statement}
 use Rattle.host.proofs.changing.ff_delete.Tie as tie
@@ -8,12 +10,12 @@ use Rattle.host.proofs.changing.ff_delete.Tie as tie
 returns : tie.Need-returns
 returns c =
     let a = c .before .before .before .before .args in
-    delete-misfit (a .list .now) (a .forecast .now) (a .key) (a .reply .now) (first-wrong _ _ (not-forecast (a .forecast .now) (c .if1 .taken)))
+    delete-misfit (a .list .now) (a .forecast .now) (a .key) (a .reply .now) (or-left (notForecast (a .forecast .now)) (short (a .reply .now) 2) (not-forecast (a .forecast .now) (c .if1 .taken)))
 
 returns-2 : tie.Need-returns-2
 returns-2 c =
     let a = c .before .before .before .before .before .args in
-    delete-misfit (a .list .now) (a .forecast .now) (a .key) (a .reply .now) (second-wrong _ _ (is-forecast (a .forecast .now) (c .before .if1 .left)) (is-short (a .reply .now) 2 (c .if2 .taken)))
+    delete-misfit (a .list .now) (a .forecast .now) (a .key) (a .reply .now) (or-right (notForecast (a .forecast .now)) (short (a .reply .now) 2) (is-short (a .reply .now) 2 (c .if2 .taken)))
 
 read-forecast-requires : tie.Need-read-forecast-requires
 read-forecast-requires c κs = search needs

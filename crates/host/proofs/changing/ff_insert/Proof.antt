@@ -1,6 +1,8 @@
 -- `ff_insert`: the insert on the forecast that the words show, its words then, and the word of the reply.
+use Rattle.lists.proofs.Tests.{or-left, or-right}
+use Rattle.host.specs.Calls.{notForecast, short}
 use Rattle.host.proofs.ChangeGiven.{insert-misfit, insert-given}
-use Rattle.host.proofs.Sized.{first-wrong, second-wrong, not-forecast, is-forecast, is-short}
+use Rattle.host.proofs.Sized.{not-forecast, is-short}
 use borrow.Author.Needs.{needs}
 use Rattle.host.proofs.changing.ff_insert.Statement.{statement}
 use Rattle.host.proofs.changing.ff_insert.Tie as tie
@@ -8,12 +10,12 @@ use Rattle.host.proofs.changing.ff_insert.Tie as tie
 returns : tie.Need-returns
 returns c =
     let a = c .before .before .before .before .args in
-    insert-misfit (a .list .now) (a .forecast .now) (a .key) (a .reply .now) (first-wrong _ _ (not-forecast (a .forecast .now) (c .if1 .taken)))
+    insert-misfit (a .list .now) (a .forecast .now) (a .key) (a .reply .now) (or-left (notForecast (a .forecast .now)) (short (a .reply .now) 1) (not-forecast (a .forecast .now) (c .if1 .taken)))
 
 returns-2 : tie.Need-returns-2
 returns-2 c =
     let a = c .before .before .before .before .before .args in
-    insert-misfit (a .list .now) (a .forecast .now) (a .key) (a .reply .now) (second-wrong _ _ (is-forecast (a .forecast .now) (c .before .if1 .left)) (is-short (a .reply .now) 1 (c .if2 .taken)))
+    insert-misfit (a .list .now) (a .forecast .now) (a .key) (a .reply .now) (or-right (notForecast (a .forecast .now)) (short (a .reply .now) 1) (is-short (a .reply .now) 1 (c .if2 .taken)))
 
 read-forecast-requires : tie.Need-read-forecast-requires
 read-forecast-requires c κs = search needs

@@ -1,6 +1,9 @@
 -- `ff_run`: the run on the forecast and totals that the words show, their words then, and the reply's.
+use mathlib.Core.Bool.{_||_}
+use Rattle.lists.proofs.Tests.{or-left, or-right}
+use Rattle.host.specs.Calls.{notForecast, notTotals, short}
 use Rattle.host.proofs.RunGiven.{run-misfit, run-given}
-use Rattle.host.proofs.Sized.{first-wrong, second-wrong, not-forecast, is-forecast, not-totals, is-totals, is-short}
+use Rattle.host.proofs.Sized.{not-forecast, not-totals, is-short}
 use borrow.Author.Needs.{needs}
 use Rattle.host.proofs.running.ff_run.Statement.{statement}
 use Rattle.host.proofs.running.ff_run.Tie as tie
@@ -8,17 +11,17 @@ use Rattle.host.proofs.running.ff_run.Tie as tie
 returns : tie.Need-returns
 returns c =
     let a = c .before .before .before .before .before .before .args in
-    run-misfit (a .list .now) (a .forecast .now) (a .requests .now) (a .allowance) (a .totals .now) (a .reply .now) (first-wrong _ _ (not-forecast (a .forecast .now) (c .if1 .taken)))
+    run-misfit (a .list .now) (a .forecast .now) (a .requests .now) (a .allowance) (a .totals .now) (a .reply .now) (or-left (notForecast (a .forecast .now)) (notTotals (a .totals .now) || short (a .reply .now) 4) (not-forecast (a .forecast .now) (c .if1 .taken)))
 
 returns-2 : tie.Need-returns-2
 returns-2 c =
     let a = c .before .before .before .before .before .before .before .args in
-    run-misfit (a .list .now) (a .forecast .now) (a .requests .now) (a .allowance) (a .totals .now) (a .reply .now) (second-wrong _ _ (is-forecast (a .forecast .now) (c .before .if1 .left)) (first-wrong _ _ (not-totals (a .totals .now) (c .if2 .taken))))
+    run-misfit (a .list .now) (a .forecast .now) (a .requests .now) (a .allowance) (a .totals .now) (a .reply .now) (or-right (notForecast (a .forecast .now)) (notTotals (a .totals .now) || short (a .reply .now) 4) (or-left (notTotals (a .totals .now)) (short (a .reply .now) 4) (not-totals (a .totals .now) (c .if2 .taken))))
 
 returns-3 : tie.Need-returns-3
 returns-3 c =
     let a = c .before .before .before .before .before .before .before .before .args in
-    run-misfit (a .list .now) (a .forecast .now) (a .requests .now) (a .allowance) (a .totals .now) (a .reply .now) (second-wrong _ _ (is-forecast (a .forecast .now) (c .before .before .if1 .left)) (second-wrong _ _ (is-totals (a .totals .now) (c .before .if2 .left)) (is-short (a .reply .now) 4 (c .if3 .taken))))
+    run-misfit (a .list .now) (a .forecast .now) (a .requests .now) (a .allowance) (a .totals .now) (a .reply .now) (or-right (notForecast (a .forecast .now)) (notTotals (a .totals .now) || short (a .reply .now) 4) (or-right (notTotals (a .totals .now)) (short (a .reply .now) 4) (is-short (a .reply .now) 4 (c .if3 .taken))))
 
 read-forecast-requires : tie.Need-read-forecast-requires
 read-forecast-requires c κs = search needs

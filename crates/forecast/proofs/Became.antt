@@ -1,39 +1,26 @@
--- The one tidy forecast with given cells; a forecast without fault is one; how many cells a step leaves.
+-- A forecast without fault is tidy; how many cells a step leaves.
 use Prim.Native.Nat.{ℕ, _-_, _≤_}
-use mathlib.Core.Path.{_≡_, sym, ap, _∙_, subst}
+use mathlib.Core.Path.{_≡_, subst}
 use mathlib.Core.List.{List}
 use native.Mathlib.Decide.{decLt}
 use native.Mathlib.Omega.{arith}
 use lib.Dec.{T, leb, eqb}
 use lib.ListN.{length, getD, length-set, length-take, length-map}
-use Rattle.lists.specs.Lists.{padded}
 use Rattle.lists.proofs.Fill.{length-without, without-past}
 use Rattle.lists.proofs.Tests.{either}
 use Rattle.slots.specs.Segments.{Segments}
 use Rattle.forecast.specs.declared.Cell.{Cell}
 use Rattle.forecast.specs.declared.Forecast.{Forecast}
-use Rattle.forecast.specs.Cells.{zeroCell, usedCells, forecastOf, cellAt}
+use Rattle.forecast.specs.Cells.{zeroCell, usedCells, cellAt}
 use Rattle.forecast.specs.Steps.{raised, tailed, noted, dropped, aimed, retargeted}
 use Rattle.forecast.specs.Faults.{isSound, faultOf}
-use Rattle.forecast.specs.Held.{Tidy, Became}
-use Rattle.forecast.proofs.Laws.{forecastOf-used, forecastOf-cells, noted-raised, noted-spent, noted-new, noted-full, dropped-is}
+use Rattle.forecast.specs.Held.{Tidy, Roomy}
+use Rattle.forecast.proofs.Laws.{noted-raised, noted-spent, noted-new, noted-full, dropped-is}
 use Rattle.forecast.proofs.Faults.{sound-ruled, sound-whole}
-use Rattle.forecast.proofs.Stepping.{became, cells-used}
-
--- a tidy forecast with the cells cs is the one that cs make
-pub became-is : (cs : List Cell) (F : Forecast) → Became cs F → F ≡ forecastOf cs
-unfolding forecastOf
-became-is cs F b = λ i. record {
-  cells = (b .tidy .rest ∙ ap (padded 12 zeroCell) (b .is)) i;
-  used = (sym (cells-used F (b .tidy)) ∙ ap length (b .is)) i;
-}
-
--- and that one is tidy, with those cells
-pub is-became : (cs : List Cell) → length cs ≤ 12 → Became cs (forecastOf cs)
-is-became cs h = became cs (forecastOf cs) h (forecastOf-used cs) (forecastOf-cells cs)
+pub use Rattle.forecast.proofs.Stepping.{is-became, became-is}
 
 -- a forecast without fault is tidy
-pub tidy-of-sound : (P : ℕ) (ss : Segments) (F : Forecast) → T (isSound (faultOf P ss F)) → length (F .cells) ≡ 12 → P ≤ 12 → Tidy F
+pub tidy-of-sound : (P : ℕ) (ss : Segments) (F : Forecast) → T (isSound (faultOf P ss F)) → Roomy F → P ≤ 12 → Tidy F
 tidy-of-sound P ss F t n p =
     let few : length (usedCells F) ≤ P = sound-ruled P ss F t .0 .few in
     subst Tidy (sound-whole P ss F t n p) (is-became (usedCells F) (omega arith) .tidy)

@@ -27,7 +27,7 @@ use Rattle.slots.proofs.Standing.{stands-live, stands-home}
 use Rattle.forecast.specs.declared.Cell.{Cell}
 use Rattle.forecast.specs.declared.Forecast.{Forecast}
 use Rattle.forecast.specs.declared.Fault.the-variants.{Sound, TooMany, NotLive, Misplaced}
-use Rattle.forecast.specs.Cells.{zeroCell, marks}
+use Rattle.forecast.specs.Cells.{zeroCell, cells, marks}
 use Rattle.forecast.specs.Held.{CellOf}
 use Rattle.forecast.specs.Faults.{markerFault, faultAt, isSound, faultOf}
 use Rattle.forecast.proofs.Laws.{place-marker}
@@ -81,17 +81,17 @@ module _ {A : Type 0} (p : A → Bool) (xs : List A) where
 
 -- A MARKER REPEATED, by its place among the markers of the cells before
 module _ (F : Forecast) (i n : ℕ) (c : Cell) (ms : List ℕ) (o : CellOf F i c n ms) (h : i < length ms) (r : ℕ) (e : r ≡ placeBy (λ m. eqb m (c .marker)) (take i ms)) where
-  before-long : length (take i (F .cells)) ≡ i
-  before-long = length-take-le i (F .cells) (omega (arith, ap length (o .markers), length-map (F .cells) (λ d. d .marker)))
+  before-long : length (take i (cells F)) ≡ i
+  before-long = length-take-le i (cells F) (omega (arith, ap length (o .markers), length-map (cells F) (λ d. d .marker)))
 
-  before-place : r ≡ placeBy (marks (c .marker)) (take i (F .cells))
-  before-place = e ∙ ap (λ (l : List ℕ). placeBy (λ m. eqb m (c .marker)) (take i l)) (o .markers) ∙ place-marker (c .marker) i (F .cells)
+  before-place : r ≡ placeBy (marks (c .marker)) (take i (cells F))
+  before-place = e ∙ ap (λ (l : List ℕ). placeBy (λ m. eqb m (c .marker)) (take i l)) (o .markers) ∙ place-marker (c .marker) i (cells F)
 
-  pub repeated : r < i → anyOf (marks (c .marker)) (take i (F .cells)) ≡ true
-  repeated l = any-placed (marks (c .marker)) (take i (F .cells)) zeroCell (omega (arith, before-long, before-place))
+  pub repeated : r < i → anyOf (marks (c .marker)) (take i (cells F)) ≡ true
+  repeated l = any-placed (marks (c .marker)) (take i (cells F)) zeroCell (omega (arith, before-long, before-place))
 
-  pub not-repeated : i ≤ r → anyOf (marks (c .marker)) (take i (F .cells)) ≡ false
-  not-repeated l = any-past (marks (c .marker)) (take i (F .cells)) (omega (arith, before-long, before-place))
+  pub not-repeated : i ≤ r → anyOf (marks (c .marker)) (take i (cells F)) ≡ false
+  not-repeated l = any-past (marks (c .marker)) (take i (cells F)) (omega (arith, before-long, before-place))
 
 -- THE FIRST FAULT
 module _ (P : ℕ) (ss : Segments) (F : Forecast) where
@@ -101,17 +101,17 @@ module _ (P : ℕ) (ss : Segments) (F : Forecast) where
   fault-many h = rw (lt-ltb P (F .used) h)
 
   -- else that of the first cell with one
-  pub fault-first : F .used ≤ P → (k : ℕ) → k < length (F .cells) → ((j : ℕ) → j < k → isSound (faultAt P ss F j) ≡ true) → isSound (faultAt P ss F k) ≡ false → faultOf P ss F ≡ faultAt P ss F k
+  pub fault-first : F .used ≤ P → (k : ℕ) → k < length (cells F) → ((j : ℕ) → j < k → isSound (faultAt P ss F j) ≡ true) → isSound (faultAt P ss F k) ≡ false → faultOf P ss F ≡ faultAt P ss F k
   unfolding faultOf
   fault-first u k h before e =
-      let f : first (λ i. not (isSound (faultAt P ss F i))) 0 (length (F .cells)) ≡ some k =
-      first-is (λ i. not (isSound (faultAt P ss F i))) 0 (length (F .cells)) k (omega arith, rw e tt, λ j a b. rw (before j b) tt) (omega arith) in
+      let f : first (λ i. not (isSound (faultAt P ss F i))) 0 (length (cells F)) ≡ some k =
+      first-is (λ i. not (isSound (faultAt P ss F i))) 0 (length (cells F)) k (omega arith, rw e tt, λ j a b. rw (before j b) tt) (omega arith) in
       rw (le-ltb P (F .used) u, f)
 
   -- else none
-  pub fault-none : F .used ≤ P → ((j : ℕ) → j < length (F .cells) → isSound (faultAt P ss F j) ≡ true) → faultOf P ss F ≡ Sound
+  pub fault-none : F .used ≤ P → ((j : ℕ) → j < length (cells F) → isSound (faultAt P ss F j) ≡ true) → faultOf P ss F ≡ Sound
   unfolding faultOf
   fault-none u all =
-      let f : first (λ i. not (isSound (faultAt P ss F i))) 0 (length (F .cells)) ≡ none =
-      first-none (λ i. not (isSound (faultAt P ss F i))) 0 (length (F .cells)) (λ j a b. rw (all j (omega arith)) tt) in
+      let f : first (λ i. not (isSound (faultAt P ss F i))) 0 (length (cells F)) ≡ none =
+      first-none (λ i. not (isSound (faultAt P ss F i))) 0 (length (cells F)) (λ j a b. rw (all j (omega arith)) tt) in
       rw (le-ltb P (F .used) u, f)

@@ -23,18 +23,19 @@ use Rattle.forecast.specs.declared.Cell.{Cell}
 use Rattle.forecast.specs.declared.Forecast.{Forecast}
 use Rattle.forecast.specs.declared.Fault.{Fault}
 use Rattle.forecast.specs.declared.Fault.the-variants.{Sound, TooMany, NotZero, Count, Repeated, NotLive, Misplaced}
-use Rattle.forecast.specs.Cells.{zeroCell, usedCells, forecastOf}
+use Rattle.forecast.specs.Cells.{zeroCell, cells, usedCells, forecastOf}
 use Rattle.forecast.specs.Faults.{faultAt, isSound, faultOf}
 use Rattle.forecast.proofs.Laws.{used-forecastOf, length-forecastOf, forecastOf-used, forecastOf-cells}
+use Rattle.forecast.proofs.Stepping.{roomy-12, roomy-whole}
 use Rattle.forecast.proofs.Ruled.{markerAt, Counted, Ruled, Placed}
-use Rattle.forecast.specs.Held.{Marker}
+use Rattle.forecast.specs.Held.{Marker, Roomy}
 use Rattle.forecast.proofs.Readings.{nth, BadBy, tooMany, noCount, overCount, repeated, notLive, misplaced, notZero, Good, Fine, Says, read-at}
 
 module _ (P : ℕ) (ss : Segments) (F : Forecast) where
   -- at most P cells are used, and each cell is fine
   record AllFine : Type 0 where
     few : F .used ≤ P
-    fine : (i : ℕ) → i < length (F .cells) → Fine P ss F i
+    fine : (i : ℕ) → i < length (cells F) → Fine P ss F i
 
   fine-at : (i : ℕ) (f : Fault) → T (isSound f) → Says P ss F i f → Fine P ss F i
   fine-at i Sound t s = s
@@ -57,12 +58,12 @@ module _ (P : ℕ) (ss : Segments) (F : Forecast) where
   -- the first fault: there is none and all is fine, or there is one and something is bad
   read-all : (T (isSound (faultOf P ss F)) × AllFine) ⊎ (T (not (isSound (faultOf P ss F))) × BadBy P ss F)
   unfolding faultOf
-  read-all = go (ltb P (F .used)) (ltb→lt _ _) (nltb→le _ _) (first bad 0 (length (F .cells))) (firsts bad 0 (length (F .cells)))
+  read-all = go (ltb P (F .used)) (ltb→lt _ _) (nltb→le _ _) (first bad 0 (length (cells F))) (firsts bad 0 (length (cells F)))
     where
       bad : ℕ → Bool
       bad i = not (isSound (faultAt P ss F i))
 
-      go : (b : Bool) → (T b → P < F .used) → (T (not b) → F .used ≤ P) → (r : Option ℕ) → Firsts bad 0 (length (F .cells)) r
+      go : (b : Bool) → (T b → P < F .used) → (T (not b) → F .used ≤ P) → (r : Option ℕ) → Firsts bad 0 (length (cells F)) r
           → (T (isSound (if b then TooMany else elim r [ none ↦ Sound | some i ↦ faultAt P ss F i ])) × AllFine)
           ⊎ (T (not (isSound (if b then TooMany else elim r [ none ↦ Sound | some i ↦ faultAt P ss F i ]))) × BadBy P ss F)
       go true p q r f = inr (tt, tooMany (p tt))
@@ -83,22 +84,22 @@ module _ (P : ℕ) (ss : Segments) (F : Forecast) where
 
   -- a used cell, where there is room for it, is one of the list
   used-at : (i : ℕ) → i < F .used → nth F i ≡ getD (usedCells F) i zeroCell
-  used-at i h = sym (getD-take (F .used) (F .cells) i zeroCell h)
+  used-at i h = sym (getD-take (F .used) (cells F) i zeroCell h)
 
-  used-all : (Q : Cell → Type 0) → ((i : ℕ) → i < F .used → i < length (F .cells) → Q (nth F i)) → All Q (usedCells F)
+  used-all : (Q : Cell → Type 0) → ((i : ℕ) → i < F .used → i < length (cells F) → Q (nth F i)) → All Q (usedCells F)
   used-all Q f c m = at (mem-at c (usedCells F) zeroCell m)
     where
       at : (t : ℕ) × (t < length (usedCells F)) × (getD (usedCells F) t zeroCell ≡ c) → Q c
       at (t, h, e) =
-          let u : t < F .used = omega (arith, length-take (F .used) (F .cells)) in
-          let l : t < length (F .cells) = omega (arith, length-take (F .used) (F .cells)) in
+          let u : t < F .used = omega (arith, length-take (F .used) (cells F)) in
+          let l : t < length (cells F) = omega (arith, length-take (F .used) (cells F)) in
           subst Q (used-at t u ∙ e) (f t u l)
 
   -- the cells of a forecast without fault keep the rule and name their markers' segments
   pub sound-ruled : T (isSound (faultOf P ss F)) → Ruled P (Marker ss) (usedCells F) × Placed (segmentOf ss) (usedCells F)
   sound-ruled t = (
     record {
-      few = let k : F .used ≤ P = sound-fine t .few in omega (arith, length-take (F .used) (F .cells));
+      few = let k : F .used ≤ P = sound-fine t .few in omega (arith, length-take (F .used) (cells F));
       counts = used-all (Counted P) (λ i u l. good i u l .counted);
       live = used-all (λ c. Marker ss (c .marker)) (λ i u l. good i u l .live);
       apart = λ i j h k e. elim (decLt i j) [ yes l ↦ absurd (differ i j l k e) | no l ↦ elim (decLt j i) [ yes m ↦ absurd (differ j i m h (sym e)) | no m ↦ omega arith ] ];
@@ -106,47 +107,49 @@ module _ (P : ℕ) (ss : Segments) (F : Forecast) where
     used-all (λ c. c .segment ≡ segmentOf ss (c .marker)) (λ i u l. good i u l .placed),
   )
     where
-      good : (i : ℕ) → i < F .used → i < length (F .cells) → Good P ss F i
+      good : (i : ℕ) → i < F .used → i < length (cells F) → Good P ss F i
       good i u l = sound-fine t .fine i l .used u
 
       differ : (i j : ℕ) → i < j → j < length (usedCells F) → markerAt (usedCells F) i ≢ markerAt (usedCells F) j
       differ i j l h e =
-          let u : j < F .used = omega (arith, length-take (F .used) (F .cells)) in
+          let u : j < F .used = omega (arith, length-take (F .used) (cells F)) in
           let v : i < F .used = omega arith in
-          good j u (omega (arith, length-take (F .used) (F .cells))) .new i l
+          good j u (omega (arith, length-take (F .used) (cells F))) .new i l
           (ap (λ (c : Cell). c .marker) (used-at i v) ∙ e ∙ ap (λ (c : Cell). c .marker) (sym (used-at j u)))
 
   -- and the forecast is those cells, written into their room
-  pub sound-whole : T (isSound (faultOf P ss F)) → length (F .cells) ≡ 12 → P ≤ 12 → forecastOf (usedCells F) ≡ F
-  unfolding forecastOf
-  sound-whole t n p = λ i. record { cells = cells i; used = used i }
+  pub sound-whole : T (isSound (faultOf P ss F)) → Roomy F → P ≤ 12 → forecastOf (usedCells F) ≡ F
+  sound-whole t r p = sym (roomy-whole F r (usedCells F) (sym used) (sym shown))
     where
       few : F .used ≤ P
       few = sound-fine t .few
 
+      n : length (cells F) ≡ 12
+      n = roomy-12 F r
+
       used : length (usedCells F) ≡ F .used
-      used = length-take-le (F .used) (F .cells) (omega (arith, few))
+      used = length-take-le (F .used) (cells F) (omega (arith, few, n))
 
       full : length (padded 12 zeroCell (usedCells F)) ≡ 12
       full = length-padded 12 zeroCell (usedCells F) (omega (arith, few, used))
 
-      cells : padded 12 zeroCell (usedCells F) ≡ F .cells
-      cells = ext-getD zeroCell (padded 12 zeroCell (usedCells F)) (F .cells) (full ∙ sym n) (λ i h. getD-padded 12 zeroCell (usedCells F) i ∙ same i (omega (arith, full)))
-        where
-          same : (i : ℕ) → i < 12 → getD (usedCells F) i zeroCell ≡ nth F i
-          same i h =
-              elim (decLt i (F .used)) [
-                | yes u ↦ sym (used-at i u)
-                | no u ↦ List·getD-eq-default (usedCells F) zeroCell (omega (arith, used)) ∙ sym (sound-fine t .fine i (omega arith) .unused (omega arith))
-              ]
+      same : (i : ℕ) → i < 12 → getD (usedCells F) i zeroCell ≡ nth F i
+      same i h =
+          elim (decLt i (F .used)) [
+            | yes u ↦ sym (used-at i u)
+            | no u ↦ List·getD-eq-default (usedCells F) zeroCell (omega (arith, used)) ∙ sym (sound-fine t .fine i (omega (arith, n)) .unused (omega arith))
+          ]
+
+      shown : padded 12 zeroCell (usedCells F) ≡ cells F
+      shown = ext-getD zeroCell (padded 12 zeroCell (usedCells F)) (cells F) (full ∙ sym n) (λ i h. getD-padded 12 zeroCell (usedCells F) i ∙ same i (omega (arith, full)))
 
   -- cells that keep the rule, with zeros after them, are not bad
-  not-bad : F .used ≤ P → F .used ≤ length (F .cells) → Ruled P (Marker ss) (usedCells F) → Placed (segmentOf ss) (usedCells F)
-      → ((i : ℕ) → F .used ≤ i → i < length (F .cells) → nth F i ≡ zeroCell) → ¬ BadBy P ss F
+  not-bad : F .used ≤ P → F .used ≤ length (cells F) → Ruled P (Marker ss) (usedCells F) → Placed (segmentOf ss) (usedCells F)
+      → ((i : ℕ) → F .used ≤ i → i < length (cells F) → nth F i ≡ zeroCell) → ¬ BadBy P ss F
   not-bad few room R p z = at
     where
       long : length (usedCells F) ≡ F .used
-      long = length-take-le (F .used) (F .cells) room
+      long = length-take-le (F .used) (cells F) room
 
       mem : (i : ℕ) → i < F .used → Mem (nth F i) (usedCells F)
       mem i h = subst (λ (c : Cell). Mem c (usedCells F)) (sym (used-at i h)) (at-mem (usedCells F) i zeroCell (omega (arith, long)))
@@ -163,8 +166,9 @@ module _ (P : ℕ) (ss : Segments) (F : Forecast) where
       at (notZero i h l n) = n (z i h l)
 
   -- something bad: there is a fault
-  pub bad-fault : length (F .cells) ≡ 12 → P ≤ 12 → BadBy P ss F → T (not (isSound (faultOf P ss F)))
-  bad-fault n p b =
+  pub bad-fault : Roomy F → P ≤ 12 → BadBy P ss F → T (not (isSound (faultOf P ss F)))
+  bad-fault r p b =
+      let n : length (cells F) ≡ 12 = roomy-12 F r in
       not-T (isSound (faultOf P ss F)) (λ t.
       let A : AllFine = sound-fine t in
       let few : F .used ≤ P = A .few in
@@ -186,9 +190,9 @@ ruled-sound P ss cs p R l =
     used : F .used ≡ length cs
     used = forecastOf-used cs
 
-    long : length (F .cells) ≡ 12
+    long : length (cells F) ≡ 12
     long = length-forecastOf cs (omega (arith, few))
 
-    zeros : (i : ℕ) → F .used ≤ i → i < length (F .cells) → nth F i ≡ zeroCell
+    zeros : (i : ℕ) → F .used ≤ i → i < length (cells F) → nth F i ≡ zeroCell
     zeros i h k =
         ap (λ (ds : List Cell). getD ds i zeroCell) (forecastOf-cells cs) ∙ getD-padded 12 zeroCell cs i ∙ List·getD-eq-default cs zeroCell (omega (arith, used))

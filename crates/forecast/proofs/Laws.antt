@@ -1,12 +1,12 @@
 -- One law for each case of the forecast's definitions, so that nothing else has to open them.
-use mathlib.Core.Path.{_≡_, refl, sym, ap, _∙_}
+use mathlib.Core.Path.{_≡_, refl, sym, ap, ap₂, _∙_}
 use mathlib.Core.Logic.{_≢_}
 use mathlib.Core.List.{List, _∷_, map}
 use Prim.Native.Nat.{ℕ, _+_, _-_, _≤_, _<_}
 use native.Mathlib.Omega.{arith}
 use borrow.Author.Tests.{lt-ltb, le-ltb, le-leb, lt-leb, ne-eqb}
 use lib.Dec.{eqb, eqb→eq}
-use lib.ListN.{length, take, getD, set, List·getD-eq-default}
+use lib.ListN.{length, take, getD, set, length-map, List·getD-eq-default}
 use Rattle.lists.specs.Lists.{without, padded}
 use Rattle.lists.specs.Search.{placeBy}
 use Rattle.lists.proofs.Tests.{eq→eqb}
@@ -15,7 +15,8 @@ use Rattle.lists.proofs.Members.{at-mem}
 use Rattle.lists.proofs.Search.{place-passes, place-mem}
 use Rattle.lists.proofs.Fill.{take-padded-all, length-padded, without-past}
 use Rattle.forecast.specs.declared.Cell.{Cell}
-use Rattle.forecast.specs.Cells.{cell, zeroCell, counted, usedCells, forecastOf, marks, cellAt, weight, markersOf}
+use Rattle.forecast.specs.Cells.{cell, zeroCell, counted, cells, usedCells, forecastOf, marks, cellAt, weight, markersOf}
+use Rattle.forecast.proofs.Rows.{zip-fill}
 use Rattle.forecast.specs.Steps.{raised, tailed, noted, dropped, aimed, retargeted}
 
 -- WHERE A MARKER'S CELL IS
@@ -108,22 +109,20 @@ module _ (cs : List Cell) (x : ℕ) where
   weight-none h = ap (λ (c : Cell). c .count) (List·getD-eq-default cs zeroCell h)
 
 -- CELLS WRITTEN INTO THEIR ROOM
--- those used are read back
-pub used-forecastOf : (cs : List Cell) → usedCells (forecastOf cs) ≡ cs
-unfolding forecastOf
-used-forecastOf cs = take-padded-all 12 zeroCell cs
-
--- there is room for 12
-pub length-forecastOf : (cs : List Cell) → length cs ≤ 12 → length (forecastOf cs .cells) ≡ 12
-unfolding forecastOf
-length-forecastOf cs h = length-padded 12 zeroCell cs h
-
 -- the number used is theirs
 pub forecastOf-used : (cs : List Cell) → forecastOf cs .used ≡ length cs
 unfolding forecastOf
 forecastOf-used cs = refl
 
--- the rest are zeros
-pub forecastOf-cells : (cs : List Cell) → forecastOf cs .cells ≡ padded 12 zeroCell cs
-unfolding forecastOf
-forecastOf-cells cs = refl
+-- their rows show them, and zeros after them
+pub forecastOf-cells : (cs : List Cell) → cells (forecastOf cs) ≡ padded 12 zeroCell cs
+unfolding forecastOf cells padded
+forecastOf-cells cs = rw (length-map cs (λ c. c .marker), length-map cs (λ c. c .segment), length-map cs (λ c. c .count)) (zip-fill cs (12 - length cs))
+
+-- those used are read back
+pub used-forecastOf : (cs : List Cell) → usedCells (forecastOf cs) ≡ cs
+used-forecastOf cs = ap₂ {C = List Cell} take (forecastOf-used cs) (forecastOf-cells cs) ∙ take-padded-all 12 zeroCell cs
+
+-- there is room for 12
+pub length-forecastOf : (cs : List Cell) → length cs ≤ 12 → length (cells (forecastOf cs)) ≡ 12
+length-forecastOf cs h = ap length (forecastOf-cells cs) ∙ length-padded 12 zeroCell cs h

@@ -19,7 +19,7 @@ use Rattle.forecast.specs.declared.Cell.{Cell}
 use Rattle.forecast.specs.declared.Forecast.{Forecast}
 use Rattle.forecast.specs.declared.Fault.{Fault}
 use Rattle.forecast.specs.declared.Fault.the-variants.{Sound, TooMany, NotZero, Count, Repeated, NotLive, Misplaced}
-use Rattle.forecast.specs.Cells.{zeroCell, marks}
+use Rattle.forecast.specs.Cells.{zeroCell, cells, marks}
 use Rattle.forecast.specs.Held.{Marker}
 use Rattle.forecast.specs.Faults.{isZero, faultAt}
 use Rattle.forecast.proofs.Ruled.{Counted}
@@ -27,17 +27,17 @@ use Rattle.slots.proofs.Keys.{member→mem, mem→member}
 
 -- the cell at a place
 abbrev pub nth : Forecast → ℕ → Cell
-nth F i = getD (F .cells) i zeroCell
+nth F i = getD (cells F) i zeroCell
 
 -- the ways in which a forecast is bad
 pub data BadBy (P : ℕ) (ss : Segments) (F : Forecast) : Type 0 where
   tooMany : P < F .used → BadBy P ss F
   noCount : (i : ℕ) → i < F .used → nth F i .count < 1 → BadBy P ss F
   overCount : (i : ℕ) → i < F .used → P < nth F i .count → BadBy P ss F
-  repeated : (i j : ℕ) → j < i → i < F .used → i < length (F .cells) → nth F j .marker ≡ nth F i .marker → BadBy P ss F
+  repeated : (i j : ℕ) → j < i → i < F .used → i < length (cells F) → nth F j .marker ≡ nth F i .marker → BadBy P ss F
   notLive : (i : ℕ) → i < F .used → nth F i .marker ≢ 0 → ¬ Mem (nth F i .marker) (keys ss) → BadBy P ss F
   misplaced : (i : ℕ) → i < F .used → Marker ss (nth F i .marker) → nth F i .segment ≢ segmentOf ss (nth F i .marker) → BadBy P ss F
-  notZero : (i : ℕ) → F .used ≤ i → i < length (F .cells) → nth F i ≢ zeroCell → BadBy P ss F
+  notZero : (i : ℕ) → F .used ≤ i → i < length (cells F) → nth F i ≢ zeroCell → BadBy P ss F
 
 -- a used cell that is fine
 pub record Good (P : ℕ) (ss : Segments) (F : Forecast) (i : ℕ) : Type 0 where
@@ -78,7 +78,7 @@ not-zero c t e = subst (λ (d : Cell). T (not (isZero d))) e t
 abbrev Tells : Bool → Type 0 → Type 0 → Type 0
 Tells b Y N = (T b → Y) × (T (not b) → N)
 
-module _ (P : ℕ) (ss : Segments) (F : Forecast) (i : ℕ) (h : i < length (F .cells)) where
+module _ (P : ℕ) (ss : Segments) (F : Forecast) (i : ℕ) (h : i < length (cells F)) where
   abbrev c : Cell
   c = nth F i
 
@@ -93,24 +93,24 @@ module _ (P : ℕ) (ss : Segments) (F : Forecast) (i : ℕ) (h : i < length (F .
         (nltb→le (c .count) 1 (n .0), nltb→le P (c .count) (n .1)),
   )
 
-  front : length (take i (F .cells)) ≡ i
-  front = length-take-le i (F .cells) (omega arith)
+  front : length (take i (cells F)) ≡ i
+  front = length-take-le i (cells F) (omega arith)
 
-  tells-again : Tells (anyOf (marks (c .marker)) (take i (F .cells))) Bad ((j : ℕ) → j < i → nth F j .marker ≢ c .marker)
+  tells-again : Tells (anyOf (marks (c .marker)) (take i (cells F))) Bad ((j : ℕ) → j < i → nth F j .marker ≢ c .marker)
   tells-again = (
-    λ t u. again u (any-some (marks (c .marker)) (take i (F .cells)) t),
+    λ t u. again u (any-some (marks (c .marker)) (take i (cells F)) t),
     λ t j l e.
         neqb→ne (nth F j .marker) (c .marker)
-        (subst (λ (d : Cell). T (not (marks (c .marker) d))) (getD-take i (F .cells) j zeroCell l) (any-none (marks (c .marker)) (take i (F .cells)) t _ (at-mem (take i (F .cells)) j zeroCell (omega (arith, front))))) e,
+        (subst (λ (d : Cell). T (not (marks (c .marker) d))) (getD-take i (cells F) j zeroCell l) (any-none (marks (c .marker)) (take i (cells F)) t _ (at-mem (take i (cells F)) j zeroCell (omega (arith, front))))) e,
   )
     where
-      found : i < F .used → (d : Cell) → d .marker ≡ c .marker → (j : ℕ) × (j < length (take i (F .cells))) × (getD (take i (F .cells)) j zeroCell ≡ d) → BadBy P ss F
+      found : i < F .used → (d : Cell) → d .marker ≡ c .marker → (j : ℕ) × (j < length (take i (cells F))) × (getD (take i (cells F)) j zeroCell ≡ d) → BadBy P ss F
       found u d e (j, l, q) =
           let k : j < i = omega (arith, front) in
-          repeated i j k u h (ap (λ (b : Cell). b .marker) (sym (getD-take i (F .cells) j zeroCell k) ∙ q) ∙ e)
+          repeated i j k u h (ap (λ (b : Cell). b .marker) (sym (getD-take i (cells F) j zeroCell k) ∙ q) ∙ e)
 
-      again : i < F .used → (d : Cell) × Mem d (take i (F .cells)) × T (marks (c .marker) d) → BadBy P ss F
-      again u (d, m, t) = found u d (eqb→eq _ _ t) (mem-at d (take i (F .cells)) zeroCell m)
+      again : i < F .used → (d : Cell) × Mem d (take i (cells F)) × T (marks (c .marker) d) → BadBy P ss F
+      again u (d, m, t) = found u d (eqb→eq _ _ t) (mem-at d (take i (cells F)) zeroCell m)
 
   tells-live : Tells (not (eqb (c .marker) 0 || member (c .marker) (keys ss))) Bad (Marker ss (c .marker))
   tells-live = (
@@ -132,7 +132,7 @@ module _ (P : ℕ) (ss : Segments) (F : Forecast) (i : ℕ) (h : i < length (F .
   unfolding faultAt
   read-at =
       go (leb (F .used) i) (leb→le _ _, nleb→lt _ _) (isZero c) (is-zero c, not-zero c) (ltb (c .count) 1 || ltb P (c .count)) tells-count
-      (anyOf (marks (c .marker)) (take i (F .cells))) tells-again (not (eqb (c .marker) 0 || member (c .marker) (keys ss))) tells-live
+      (anyOf (marks (c .marker)) (take i (cells F))) tells-again (not (eqb (c .marker) 0 || member (c .marker) (keys ss))) tells-live
       (not (eqb (c .segment) (segmentOf ss (c .marker)))) tells-place
     where
       go : (u : Bool) → Tells u (F .used ≤ i) (i < F .used) → (z : Bool) → Tells z (c ≡ zeroCell) (c ≢ zeroCell) → (n : Bool) → Tells n Bad (Counted P c)

@@ -1,100 +1,137 @@
--- A tidy forecast while a step changes it: its cells, what a store leaves, and its cells being overwritten from the head.
-use Prim.Native.Nat.{ℕ, _+_, _-_, _≤_, _<_}
-use mathlib.Core.Path.{_≡_, ap, sym, _∙_}
-use mathlib.Core.List.{List, map}
+-- A tidy forecast while a step changes it: its rows, its cells, and what a step leaves in them.
+use Prim.Native.Nat.{ℕ, zero, suc, _-_, _≤_, _<_}
+use mathlib.Core.Path.{_≡_, refl, ap, ap₂, sym, _∙_, subst}
+use mathlib.Core.List.{List, _∷_, map, map-append}
 use native.Mathlib.Omega.{arith}
-use lib.ListN.{length, take, drop, getD, set, length-set, length-take, length-map, List·getD-eq-default}
-use lib.Seq.{length-take-le, take-take}
+use lib.Dec.{eqb}
+use lib.ListN.{length, take, getD, replicate, length-map}
 use Rattle.lists.specs.Lists.{padded}
-use Rattle.lists.proofs.Fill.{length-padded, getD-padded, take-padded, take-padded-all, drop-padded, set-padded}
+use Rattle.lists.proofs.Fill.{getD-padded, take-padded-all}
+use Rattle.lists.specs.Search.{placeBy}
+use Rattle.lists.proofs.Maps.{place-map}
 use Rattle.forecast.specs.declared.Cell.{Cell}
 use Rattle.forecast.specs.declared.Forecast.{Forecast}
-use Rattle.forecast.specs.Cells.{zeroCell, usedCells}
-use Rattle.forecast.specs.Held.{Tidy, Became}
-use Rattle.lists.proofs.Overwritten.{written, written-from, written-more, written-ahead, written-done}
+use Rattle.forecast.specs.Cells.{cell, zeroCell, cells, usedCells, row, forecastOf, cellAt}
+use Rattle.forecast.specs.Held.{Tidy, Became, Roomy, CellOf}
+use Rattle.forecast.proofs.Laws.{forecastOf-used, forecastOf-cells, length-forecastOf, used-forecastOf}
+use Rattle.forecast.proofs.Rows.{length-zip, getD-zip, markers-zip, segments-zip, counts-zip, row-at, row-long}
 
--- what owning an array of structs tells of its list's length: handed to `search` beside `needs`
-pub array-long : (X Y : Type 0) (f : X → Y) (l : List X) (n : ℕ) → length (map f l) ≡ n → length l ≡ n
-array-long X Y f l n e = sym (length-map l f) ∙ e
+-- THE ONE TIDY FORECAST with given cells
+-- it is tidy, with those cells
+pub is-became : (cs : List Cell) → length cs ≤ 12 → Became cs (forecastOf cs)
+is-became cs h = record {
+  tidy = record { room = rw (forecastOf-used cs) h; rest = ap forecastOf (sym (used-forecastOf cs)) };
+  is = used-forecastOf cs;
+}
 
-abbrev pub made : List Cell → ℕ → Forecast
-made cs u = record { cells = cs; used = u }
+-- a tidy forecast with the cells cs is the one that cs make
+pub became-is : (cs : List Cell) (F : Forecast) → Became cs F → F ≡ forecastOf cs
+became-is cs F b = b .tidy .rest ∙ ap forecastOf (b .is)
 
--- a forecast that holds cs, then zeros, and their number
-pub became : (cs : List Cell) (F : Forecast) → length cs ≤ 12 → F .used ≡ length cs → F .cells ≡ padded 12 zeroCell cs → Became cs F
-became cs F l u e =
-    let is : usedCells F ≡ cs = rw (u, e) (take-padded-all 12 zeroCell cs) in
-    record { tidy = record { room = omega arith; rest = rw is e }; is = is }
+-- a forecast whose rows hold cs, then zeros, and their number
+pub became : (cs : List Cell) (F : Forecast) → length cs ≤ 12 → F .used ≡ length cs
+    → F .markers ≡ row (λ c. c .marker) cs → F .segments ≡ row (λ c. c .segment) cs → F .counts ≡ row (λ c. c .count) cs → Became cs F
+unfolding forecastOf
+became cs F l u m s n = subst (Became cs) (λ i. record { markers = sym m i; segments = sym s i; counts = sym n i; used = sym u i }) (is-became cs l)
+
+-- THE CELLS OF ROOMY ROWS
+module _ (F : Forecast) (r : Roomy F) where
+  pub roomy-12 : length (cells F) ≡ 12
+  unfolding cells
+  roomy-12 = length-zip (F .markers) (F .segments) (F .counts) (r .segments ∙ sym (r .markers)) (r .counts ∙ sym (r .markers)) ∙ r .markers
+
+  pub roomy-at : (i : ℕ) → i < 12 → getD (cells F) i zeroCell ≡ cell (getD (F .markers) i 0) (getD (F .segments) i 0) (getD (F .counts) i 0)
+  unfolding cells
+  roomy-at i h = getD-zip (F .markers) (F .segments) (F .counts) (r .segments ∙ sym (r .markers)) (r .counts ∙ sym (r .markers)) i (omega (arith, r .markers))
+
+  -- their fields are the rows
+  pub roomy-markers : map (λ c. c .marker) (cells F) ≡ F .markers
+  unfolding cells
+  roomy-markers = markers-zip (F .markers) (F .segments) (F .counts) (r .segments ∙ sym (r .markers)) (r .counts ∙ sym (r .markers))
+
+  -- the cell at i, with its fields read from the rows
+  pub roomy-cell : (i : ℕ) → i < 12 → (s n : ℕ) → s ≡ getD (F .segments) i 0 → n ≡ getD (F .counts) i 0 → CellOf F i (cell (getD (F .markers) i 0) s n) (F .used) (F .markers)
+  roomy-cell i h s n a b = record {
+    cell = (λ k. cell (getD (F .markers) i 0) (a k) (b k)) ∙ sym (roomy-at i h);
+    used = refl;
+    markers = sym roomy-markers;
+  }
+
+  -- where the cells are cs, and zeros after them, the forecast is the one that cs make
+  pub roomy-whole : (cs : List Cell) → F .used ≡ length cs → cells F ≡ padded 12 zeroCell cs → F ≡ forecastOf cs
+  unfolding cells forecastOf padded
+  roomy-whole cs u e = λ i. record { markers = m i; segments = s i; counts = n i; used = u i }
+    where
+      filled : (f : Cell → ℕ) → f zeroCell ≡ 0 → (k : ℕ) → map f (replicate k zeroCell) ≡ replicate k 0
+      filled f z zero = refl
+      filled f z (suc k) = ap₂ {C = List ℕ} _∷_ z (filled f z k)
+
+      field : (f : Cell → ℕ) → f zeroCell ≡ 0 → (xs : List ℕ) → map f (cells F) ≡ xs → xs ≡ row f cs
+      field f z xs q = sym q ∙ ap (map f) e ∙ map-append f cs (replicate (12 - length cs) zeroCell) ∙ rw (filled f z (12 - length cs), length-map cs f) refl
+
+      m : F .markers ≡ row (λ c. c .marker) cs
+      m = field (λ c. c .marker) refl (F .markers) roomy-markers
+
+      s : F .segments ≡ row (λ c. c .segment) cs
+      s = field (λ c. c .segment) refl (F .segments) (segments-zip (F .markers) (F .segments) (F .counts) (r .segments ∙ sym (r .markers)) (r .counts ∙ sym (r .markers)))
+
+      n : F .counts ≡ row (λ c. c .count) cs
+      n = field (λ c. c .count) refl (F .counts) (counts-zip (F .markers) (F .segments) (F .counts) (r .segments ∙ sym (r .markers)) (r .counts ∙ sym (r .markers)))
 
 module _ (F : Forecast) (t : Tidy F) where
-  -- it has 12 cells
-  pub cells-12 : length (F .cells) ≡ 12
-  cells-12 =
-      let l : length (usedCells F) ≤ 12 = let r = t .room in simp length-take (omega arith) in
-      ap length (t .rest) ∙ length-padded 12 zeroCell (usedCells F) l
+  abbrev us : List Cell
+  us = usedCells F
 
-  -- as many as it says are used
-  pub cells-used : length (usedCells F) ≡ F .used
-  cells-used = let r = t .room in length-take-le _ _ (omega (arith, cells-12))
+  -- as many cells as it says are used
+  pub cells-used : length us ≡ F .used
+  cells-used = sym (ap (λ (G : Forecast). G .used) (t .rest) ∙ forecastOf-used us)
+
+  -- each row holds the used cells' fields, and zeros after them
+  pub markers-row : F .markers ≡ row (λ c. c .marker) us
+  unfolding forecastOf
+  markers-row = ap (λ (G : Forecast). G .markers) (t .rest)
+
+  pub segments-row : F .segments ≡ row (λ c. c .segment) us
+  unfolding forecastOf
+  segments-row = ap (λ (G : Forecast). G .segments) (t .rest)
+
+  pub counts-row : F .counts ≡ row (λ c. c .count) us
+  unfolding forecastOf
+  counts-row = ap (λ (G : Forecast). G .counts) (t .rest)
+
+  -- and has room for 12
+  pub tidy-roomy : Roomy F
+  tidy-roomy =
+      let r = t .room in
+      let l : length us ≤ 12 = omega (arith, cells-used) in
+      record {
+        markers = ap length markers-row ∙ row-long (λ c. c .marker) us l;
+        segments = ap length segments-row ∙ row-long (λ c. c .segment) us l;
+        counts = ap length counts-row ∙ row-long (λ c. c .count) us l;
+      }
+
+  -- it has 12 cells
+  pub cells-12 : length (cells F) ≡ 12
+  cells-12 =
+      let r = t .room in
+      ap (λ (G : Forecast). length (cells G)) (t .rest) ∙ length-forecastOf us (omega (arith, cells-used))
 
   -- each is the one of the used cells, or zero
-  pub cell-is : (i : ℕ) → getD (F .cells) i zeroCell ≡ getD (usedCells F) i zeroCell
-  cell-is i = ap (λ (l : List Cell). getD l i zeroCell) (t .rest) ∙ getD-padded 12 zeroCell (usedCells F) i
+  pub cell-is : (i : ℕ) → getD (cells F) i zeroCell ≡ getD us i zeroCell
+  cell-is i = ap (λ (G : Forecast). getD (cells G) i zeroCell) (t .rest) ∙ rw (forecastOf-cells us) (getD-padded 12 zeroCell us i)
 
-  -- one cell stored anew
-  set-is : (i : ℕ) (c : Cell) → i < F .used → set (F .cells) i c ≡ padded 12 zeroCell (set (usedCells F) i c)
-  set-is i c h = ap (λ (l : List Cell). set l i c) (t .rest) ∙ set-padded 12 zeroCell (usedCells F) i c (omega (arith, cells-used))
+  -- its fields stand in the rows
+  pub marker-is : (i : ℕ) → getD (F .markers) i 0 ≡ getD us i zeroCell .marker
+  marker-is i = ap (λ (l : List ℕ). getD l i 0) markers-row ∙ (row-at (λ c. c .marker) us refl i)
 
-  -- its cells overwritten from the head by those of cs, as far as i
-  module _ (cs : List Cell) (l : length cs ≤ 12) where
-    abbrev pub over : ℕ → List Cell
-    over i = written (padded 12 zeroCell cs) (F .cells) i
+  pub segment-is : (i : ℕ) → getD (F .segments) i 0 ≡ getD us i zeroCell .segment
+  segment-is i = ap (λ (l : List ℕ). getD l i 0) segments-row ∙ row-at (λ c. c .segment) us refl i
 
-    -- the first i are the same
-    pub over-from : (i : ℕ) → i ≤ length cs → i ≤ F .used → take i cs ≡ take i (usedCells F) → F .cells ≡ over i
-    over-from i h u e =
-        written-from (padded 12 zeroCell cs) (F .cells) i
-        (take-padded 12 zeroCell cs i h ∙ e ∙ sym (take-padded 12 zeroCell (usedCells F) i (omega (arith, cells-used))) ∙ ap (take i) (sym (t .rest)))
+  pub count-is : (i : ℕ) → getD (F .counts) i 0 ≡ getD us i zeroCell .count
+  count-is i = ap (λ (l : List ℕ). getD l i 0) counts-row ∙ (row-at (λ c. c .count) us refl i)
 
-    -- one more is written
-    pub over-more : (i : ℕ) → i < 12 → set (over i) i (getD cs i zeroCell) ≡ over (i + 1)
-    over-more i h =
-        ap (set (over i) i) (sym (getD-padded 12 zeroCell cs i))
-        ∙ written-more (padded 12 zeroCell cs) (F .cells) i zeroCell (omega (arith, length-padded 12 zeroCell cs l)) (omega (arith, cells-12))
-
-    -- those ahead are still the old ones
-    pub over-ahead : (i j : ℕ) → i ≤ j → i ≤ 12 → getD (over i) j zeroCell ≡ getD (usedCells F) j zeroCell
-    over-ahead i j h k = written-ahead (padded 12 zeroCell cs) (F .cells) i j zeroCell h (omega (arith, length-padded 12 zeroCell cs l)) ∙ cell-is j
-
-    -- all are written
-    pub over-done : (i : ℕ) → length cs ≤ i → F .used ≤ i → over i ≡ padded 12 zeroCell cs
-    over-done i h u =
-        written-done (padded 12 zeroCell cs) (F .cells) i
-        (drop-padded 12 zeroCell cs i h ∙ sym (drop-padded 12 zeroCell (usedCells F) i (omega (arith, cells-used))) ∙ ap (drop i) (sym (t .rest)))
-
-    -- all but the last of the old ones, which is made zero
-    pub over-last : (i : ℕ) → length cs ≤ i → i < 12 → F .used ≤ i + 1 → set (over i) i zeroCell ≡ padded 12 zeroCell cs
-    over-last i h k u =
-        ap (set (over i) i) (sym (List·getD-eq-default cs zeroCell h)) ∙ over-more i k ∙ over-done (i + 1) (omega arith) u
-
-  -- one cell stored anew
-  pub became-set : (i : ℕ) (c : Cell) → i < F .used → Became (set (usedCells F) i c) (made (set (F .cells) i c) (F .used))
-  became-set i c h = let r = t .room in became _ _ (simp length-set (omega (arith, cells-used))) (simp length-set (sym cells-used)) (set-is i c h)
-
-  -- two
-  pub became-set-2 : (i j : ℕ) (a b : Cell) → i < F .used → j < F .used → Became (set (set (usedCells F) i a) j b) (made (set (set (F .cells) i a) j b) (F .used))
-  became-set-2 i j a b h k =
-      let r = t .room in
-      became _ _ (simp length-set (omega (arith, cells-used))) (simp length-set (sym cells-used))
-      (ap (λ (x : List Cell). set x j b) (set-is i a h) ∙ set-padded 12 zeroCell (set (usedCells F) i a) j b (simp length-set (omega (arith, cells-used))))
-
-  -- the last cell gone
-  pub became-less : 0 < F .used → Became (take (F .used - 1) (usedCells F)) (made (set (F .cells) (F .used - 1) zeroCell) (F .used - 1))
-  became-less h =
-      let r = t .room in
-      let l : length (take (F .used - 1) (usedCells F)) ≡ F .used - 1 = length-take-le (F .used - 1) (usedCells F) (omega (arith, cells-used)) in
-      let m : length (take (F .used - 1) (usedCells F)) ≤ 12 = omega arith in
-      let e : F .cells ≡ over (take (F .used - 1) (usedCells F)) m (F .used - 1) =
-      over-from _ m (F .used - 1) (omega arith) (omega arith) (take-take (F .used - 1) (F .used - 1) (usedCells F) (omega arith)) in
-      became _ _ m (sym l)
-      (ap (λ (x : List Cell). set x (F .used - 1) zeroCell) e ∙ over-last _ m (F .used - 1) (omega arith) (omega arith) (omega arith))
+  -- a search of the markers is one of the cells
+  pub place-is : (x : ℕ) → placeBy (λ m. eqb m x) (take (F .used) (F .markers)) ≡ cellAt x us
+  place-is x =
+      let n : F .used ≡ length (map (λ c. c .marker) us) = sym (length-map us (λ c. c .marker) ∙ cells-used) in
+      ap (placeBy (λ m. eqb m x)) (ap₂ {C = List ℕ} take n markers-row ∙ take-padded-all 12 0 (map (λ c. c .marker) us)) ∙ place-map (λ m. eqb m x) (λ c. c .marker) us

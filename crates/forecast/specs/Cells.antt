@@ -1,7 +1,7 @@
 -- Document 01, "The forecast": at most P cells, ordered from newest (head) to oldest (tail).
 use Prim.Native.Nat.{ℕ}
 use mathlib.Core.Bool.{Bool}
-use mathlib.Core.List.{List, map}
+use mathlib.Core.List.{List, [], _∷_, map}
 use lib.Dec.{eqb}
 use lib.ListN.{length, take, getD}
 use Rattle.lists.specs.Lists.{padded}
@@ -19,13 +19,28 @@ zeroCell = cell 0 0 0
 abbrev pub counted : ℕ → Cell → Cell
 counted n c = cell (c .marker) (c .segment) n
 
+-- The cells of a row of markers, one of segments and one of counts.
+abbrev pub zip3 : List ℕ → List ℕ → List ℕ → List Cell
+zip3 [] ss ns = []
+zip3 (x ∷ xs) [] ns = []
+zip3 (x ∷ xs) (s ∷ ss) [] = []
+zip3 (x ∷ xs) (s ∷ ss) (n ∷ ns) = cell x s n ∷ zip3 xs ss ns
+
+-- The cells that a forecast's three rows show.
+unfoldable pub cells : Forecast → List Cell
+cells F = zip3 (F .markers) (F .segments) (F .counts)
+
 -- The used cells.
 abbrev pub usedCells : Forecast → List Cell
-usedCells F = take (F .used) (F .cells)
+usedCells F = take (F .used) (cells F)
+
+-- One field of the cells, in a row of 12 with zeros after them.
+abbrev pub row : (Cell → ℕ) → List Cell → List ℕ
+row f cs = padded 12 0 (map f cs)
 
 -- Room for 12 cells is kept, with the number used; unused cells are all zeros.
 unfoldable pub forecastOf : List Cell → Forecast
-forecastOf cs = record { cells = padded 12 zeroCell cs; used = length cs }
+forecastOf cs = record { markers = row (λ c. c .marker) cs; segments = row (λ c. c .segment) cs; counts = row (λ c. c .count) cs; used = length cs }
 
 -- The place of the cell with marker x; the number of cells where x has none.
 abbrev pub marks : ℕ → Cell → Bool

@@ -14,7 +14,7 @@ use Rattle.forecast.specs.declared.Cell.{Cell}
 use Rattle.forecast.specs.declared.Forecast.{Forecast}
 use Rattle.forecast.specs.declared.Fault.{Fault}
 use Rattle.forecast.specs.declared.Fault.the-variants.{Sound, TooMany, NotZero, Count, Repeated, NotLive, Misplaced}
-use Rattle.forecast.specs.Cells.{zeroCell, marks}
+use Rattle.forecast.specs.Cells.{zeroCell, cells, marks}
 
 abbrev pub isZero : Cell → Bool
 isZero c = eqb (c .marker) 0 && eqb (c .segment) 0 && eqb (c .count) 0
@@ -29,10 +29,10 @@ markerFault ss c i =
 -- What is wrong with cell i, if anything.
 unfoldable pub faultAt : ℕ → Segments → Forecast → ℕ → Fault
 faultAt P ss F i =
-    let c = getD (F .cells) i zeroCell in
+    let c = getD (cells F) i zeroCell in
     if leb (F .used) i then (if isZero c then Sound else NotZero i)
     else if ltb (c .count) 1 || ltb P (c .count) then Count i
-    else if anyOf (marks (c .marker)) (take i (F .cells)) then Repeated i
+    else if anyOf (marks (c .marker)) (take i (cells F)) then Repeated i
     else markerFault ss c i
 
 abbrev pub isSound : Fault → Bool
@@ -46,5 +46,5 @@ isSound (Misplaced i) = false
 
 unfoldable pub faultOf : ℕ → Segments → Forecast → Fault
 faultOf P ss F =
-    let found = first (λ i. not (isSound (faultAt P ss F i))) 0 (length (F .cells)) in
+    let found = first (λ i. not (isSound (faultAt P ss F i))) 0 (length (cells F)) in
     if ltb P (F .used) then TooMany else elim found [ none ↦ Sound | some i ↦ faultAt P ss F i ]

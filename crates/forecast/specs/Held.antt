@@ -1,24 +1,34 @@
 -- A forecast between two steps: its used cells, and zeros after them.
-use Prim.Native.Nat.{ℕ, _≤_, _<_}
+use Prim.Native.Nat.{ℕ, _-_, _≤_, _<_}
 use mathlib.Core.Path.{_≡_}
 use mathlib.Core.Logic.{_⊎_}
 use mathlib.Core.List.{List, List·Memᴰ as Mem}
-use lib.ListN.{length, getD}
-use Rattle.lists.specs.Lists.{All, padded}
+use lib.ListN.{length, getD, set}
+use Rattle.lists.specs.Lists.{All}
 use Rattle.slots.specs.Segments.{Segments, keys}
 use Rattle.forecast.specs.declared.Cell.{Cell}
 use Rattle.forecast.specs.declared.Forecast.{Forecast}
-use Rattle.forecast.specs.Cells.{zeroCell, usedCells, markersOf}
+use Rattle.forecast.specs.Cells.{zeroCell, cells, usedCells, forecastOf, markersOf}
 
 -- at most 12 cells in use, and the others all zeros
 pub record Tidy (F : Forecast) : Type 0 where
   pub room : F .used ≤ 12
-  pub rest : F .cells ≡ padded 12 zeroCell (usedCells F)
+  pub rest : F ≡ forecastOf (usedCells F)
 
 -- a tidy forecast with exactly these cells: there is one, `forecastOf cs`
 pub record Became (cs : List Cell) (F : Forecast) : Type 0 where
   pub tidy : Tidy F
   pub is : usedCells F ≡ cs
+
+-- the three rows have room for 12 cells each, as those of any forecast that code holds
+pub record Roomy (F : Forecast) : Type 0 where
+  pub markers : length (F .markers) ≡ 12
+  pub segments : length (F .segments) ≡ 12
+  pub counts : length (F .counts) ≡ 12
+
+-- place i of a row changes places with the one before
+abbrev pub aheadRow : ℕ → List ℕ → List ℕ
+aheadRow i xs = set (set xs i (getD xs (i - 1) 0)) (i - 1) (getD xs i 0)
 
 -- 0 for the front, or a live key
 abbrev pub Marker : Segments → ℕ → Type 0
@@ -36,6 +46,6 @@ pub record Fitting (F : Forecast) : Type 0 where
 
 -- c is cell i of the forecast, which uses so many of its cells and has these markers
 pub record CellOf (F : Forecast) (i : ℕ) (c : Cell) (n : ℕ) (ms : List ℕ) : Type 0 where
-  pub cell : c ≡ getD (F .cells) i zeroCell
+  pub cell : c ≡ getD (cells F) i zeroCell
   pub used : n ≡ F .used
-  pub markers : ms ≡ markersOf (F .cells)
+  pub markers : ms ≡ markersOf (cells F)

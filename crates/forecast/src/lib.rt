@@ -4,15 +4,14 @@ ghost use mathlib.Core.List.{[], _∷_};
 ghost use Prim.Native.Nat.{ℕ, _+_, _*_, _≤_, _<_};
 ghost use lib.Dec.{eqb};
 ghost use lib.ListN.{length, take, getD};
-ghost use Rattle.lists.specs.Lists.{without};
 ghost use Rattle.lists.specs.Search.{placeBy};
 ghost use Rattle.slots.specs.Segments.{Segments};
 ghost use Rattle.slots.specs.Keys.{segmentOf};
 ghost use Rattle.slots.specs.Shown.{Shows};
-ghost use Rattle.forecast.specs.Cells.{cell, zeroCell, usedCells, cellAt, weight, markersOf};
-ghost use Rattle.forecast.specs.Steps.{raised, tailed, noted, dropped, retargeted};
+ghost use Rattle.forecast.specs.Cells.{usedCells, weight};
+ghost use Rattle.forecast.specs.Steps.{noted, dropped, retargeted};
 ghost use Rattle.forecast.specs.Faults.{isZero, markerFault, faultAt, faultOf, isSound};
-ghost use Rattle.forecast.specs.Held.{Tidy, Became, Marker, Live, CellOf};
+ghost use Rattle.forecast.specs.Held.{Tidy, Became, Marker, Live, CellOf, aheadRow};
 
 // A marker is a live key, or 0 for the front of the list.
 pub struct Cell {
@@ -21,9 +20,11 @@ pub struct Cell {
     pub count: usize,
 }
 
-// Room for 12 cells, with the number used.
+// Room for 12 cells, with the number used: a row of markers, one of segments and one of counts.
 pub struct Forecast {
-    pub cells: [Cell; 12],
+    pub markers: [u64; 12],
+    pub segments: [u8; 12],
+    pub counts: [u8; 12],
     pub used: usize,
 }
 
@@ -42,122 +43,12 @@ impl Forecast {
     pub fn empty() -> Forecast
         ensures { λ r. ⌜ Became [] r ⌝ }
     {
-        let zero = Cell {
-            marker: 0,
-            segment: 0,
-            count: 0,
-        };
         Forecast {
-            cells: [zero; 12],
+            markers: [0; 12],
+            segments: [0; 12],
+            counts: [0; 12],
             used: 0,
         }
-    }
-
-    // The markers of all cells: a search of them copies no cell.
-    fn markers(self) -> [u64; 12]
-        ensures { λ r. ⌜ r ≡ markersOf (self .cells) ⌝ }
-    {
-        let mut markers: [u64; 12] = [0; 12];
-        let mut i: usize = 0;
-        while i < 12 {
-            markers[i] = self.cells[i].marker;
-            i += 1;
-        }
-        markers
-    }
-
-    // The first of the first `n` cells with this marker, or `n`.
-    fn first_with(self, n: usize, marker: u64) -> usize
-        requires { ⌜ n ≤ 12 ⌝ }
-        ensures { λ r. ⌜ r ≡ cellAt marker (take n (self .cells)) ⌝ }
-    {
-        let markers = self.markers();
-        first_of(&markers, n, marker)
-    }
-
-    // One more for the cell at `at`, which then changes places with its neighbour toward the head.
-    fn raise(mut self, at: usize) -> Forecast
-        requires { ⌜ Tidy self ⌝ }
-        requires { ⌜ at < self .used ⌝ }
-        requires { ⌜ getD (self .cells) at zeroCell .count < 12 ⌝ }
-        ensures { λ r. ⌜ Became (raised at (usedCells self)) r ⌝ }
-    {
-        let mut cell = self.cells[at];
-        cell.count = cell.count + 1;
-        if at == 0 {
-            self.cells[at] = cell;
-            return self;
-        }
-        let to = at - 1;
-        let ahead = self.cells[to];
-        self.cells[at] = ahead;
-        self.cells[to] = cell;
-        self
-    }
-
-    // One less for the tail, which goes when its count is spent.
-    fn lower_tail(mut self) -> Forecast
-        requires { ⌜ Tidy self ⌝ }
-        requires { ⌜ 0 < self .used ⌝ }
-        ensures { λ r. ⌜ Became (tailed (usedCells self)) r ⌝ }
-    {
-        let tail = self.used - 1;
-        let mut cell = self.cells[tail];
-        if cell.count <= 1 {
-            let zero = Cell {
-                marker: 0,
-                segment: 0,
-                count: 0,
-            };
-            self.cells[tail] = zero;
-            self.used = tail;
-            return self;
-        }
-        cell.count = cell.count - 1;
-        self.cells[tail] = cell;
-        self
-    }
-
-    // A new cell at the head.
-    fn push(mut self, cell: Cell) -> Forecast
-        requires { ⌜ Tidy self ⌝ }
-        requires { ⌜ self .used < 12 ⌝ }
-        ensures { λ r. ⌜ Became (cell ∷ usedCells self) r ⌝ }
-    {
-        let used = self.used;
-        let mut carry = cell;
-        let mut i: usize = 0;
-        while i <= used {
-            let here = self.cells[i];
-            self.cells[i] = carry;
-            carry = here;
-            i += 1;
-        }
-        self.used = used + 1;
-        self
-    }
-
-    // The cell at `at` goes, and the others close up.
-    fn remove(mut self, at: usize) -> Forecast
-        requires { ⌜ Tidy self ⌝ }
-        requires { ⌜ at < self .used ⌝ }
-        ensures { λ r. ⌜ Became (without at (usedCells self)) r ⌝ }
-    {
-        let tail = self.used - 1;
-        let mut i = at;
-        while i < tail {
-            let next = self.cells[i + 1];
-            self.cells[i] = next;
-            i += 1;
-        }
-        let zero = Cell {
-            marker: 0,
-            segment: 0,
-            count: 0,
-        };
-        self.cells[tail] = zero;
-        self.used = tail;
-        self
     }
 
     // An insert notes its predecessor: a live key, or 0 for the front.
@@ -165,37 +56,70 @@ impl Forecast {
         requires { ⌜ Tidy self ⌝ }
         requires { ⌜ 0 < p ⌝ }
         requires { ⌜ p ≤ 12 ⌝ }
+        requires { ⌜ segment < 64 ⌝ }
         ensures { λ r. ⌜ Became (noted p marker segment (usedCells self)) r ⌝ }
     {
         let used = self.used;
-        let at = self.first_with(used, marker);
+        let at = first_of(&self.markers, used, marker);
         if at < used {
-            let cell = self.cells[at];
-            if cell.count < p {
-                return self.raise(at);
+            let count = self.counts[at];
+            if wide(count) < p {
+                // One more, and it changes places with its neighbour toward the head.
+                self.counts[at] = count + 1;
+                if at == 0 {
+                    return self;
+                }
+                ahead8(&mut self.segments, at);
+                ahead8(&mut self.counts, at);
+                ahead(&mut self.markers, at);
+                return self;
             }
-            return self.lower_tail();
+        } else {
+            if used < p {
+                // A new cell at the head.
+                put_first8(&mut self.segments, segment as u8);
+                put_first8(&mut self.counts, 1);
+                self.used = used + 1;
+                put_first(&mut self.markers, marker);
+                return self;
+            }
         }
-        if used < p {
-            let cell = Cell {
-                marker: marker,
-                segment: segment,
-                count: 1,
-            };
-            return self.push(cell);
+        // One less for the tail, which goes when its count is spent.
+        let tail = used - 1;
+        let count = self.counts[tail];
+        if count <= 1 {
+            self.counts[tail] = 0;
+            self.segments[tail] = 0;
+            self.used = tail;
+            self.markers[tail] = 0;
+            return self;
         }
-        self.lower_tail()
+        self.counts[tail] = count - 1;
+        self
     }
 
-    // A deleted marker loses its cell.
+    // A deleted marker loses its cell, and the others close up.
     pub fn drop_marker(mut self, marker: u64) -> Forecast
         requires { ⌜ Tidy self ⌝ }
         ensures { λ r. ⌜ Became (dropped marker (usedCells self)) r ⌝ }
     {
         let used = self.used;
-        let at = self.first_with(used, marker);
+        let at = first_of(&self.markers, used, marker);
         if at < used {
-            return self.remove(at);
+            let tail = used - 1;
+            let mut i = at;
+            while i < tail {
+                let next = i + 1;
+                self.segments[i] = self.segments[next];
+                self.counts[i] = self.counts[next];
+                self.markers[i] = self.markers[next];
+                i = next;
+            }
+            self.segments[tail] = 0;
+            self.counts[tail] = 0;
+            self.used = tail;
+            self.markers[tail] = 0;
+            return self;
         }
         self
     }
@@ -206,9 +130,9 @@ impl Forecast {
         ensures { λ r. ⌜ r ≡ weight (usedCells self) marker ⌝ }
     {
         let used = self.used;
-        let at = self.first_with(used, marker);
+        let at = first_of(&self.markers, used, marker);
         if at < used {
-            return self.cells[at].count;
+            return wide(self.counts[at]);
         }
         0
     }
@@ -216,15 +140,14 @@ impl Forecast {
     // Every cell names its marker's actual segment, which a search finds.
     pub fn retarget(mut self, list: &[u64]) -> Forecast
         requires { ⌜ Tidy self ⌝ }
-        requires { ⌜ 64 ≤ length (now list) ⌝ }
+        requires { ⌜ (64 ≤ length (now list)) × (length (now list) ≤ 4096) ⌝ }
         ensures { λ r. ⌜ (Tidy r) × ((ss : Segments) → Shows ss (now (list .entry)) → Live ss self → Became (retargeted (segmentOf ss) (usedCells self)) r) ⌝ }
     {
         let used = self.used;
         let mut i: usize = 0;
         while i < used {
-            let mut cell = self.cells[i];
-            cell.segment = segment_of(list, cell.marker);
-            self.cells[i] = cell;
+            let segment = segment_of(list, self.markers[i]);
+            self.segments[i] = segment as u8;
             i += 1;
         }
         self
@@ -241,11 +164,14 @@ impl Forecast {
         if p < used {
             return Fault::TooMany;
         }
-        let markers = self.markers();
         let mut i: usize = 0;
         while i < 12 {
-            let cell = self.cells[i];
-            let fault = fault_at(cell, i, used, &markers, p, list);
+            let cell = Cell {
+                marker: self.markers[i],
+                segment: wide(self.segments[i]),
+                count: wide(self.counts[i]),
+            };
+            let fault = fault_at(cell, i, used, &self.markers, p, list);
             if !is_sound(fault) {
                 return fault;
             }
@@ -253,6 +179,67 @@ impl Forecast {
         }
         Fault::Sound
     }
+}
+
+pub fn wide(x: u8) -> usize
+    ensures { λ r. ⌜ r ≡ x ⌝ }
+{
+    x as usize
+}
+
+// Place `at` changes places with the one before.
+fn ahead(xs: &mut [u64; 12], at: usize)
+    requires { ⌜ (0 < at) × (at < 12) ⌝ }
+    ensures { λ _. ⌜ now (xs .exit) ≡ aheadRow at (now (xs .entry)) ⌝ }
+{
+    let to = at - 1;
+    let x = xs[at];
+    xs[at] = xs[to];
+    xs[to] = x;
+}
+
+fn ahead8(xs: &mut [u8; 12], at: usize)
+    requires { ⌜ (0 < at) × (at < 12) ⌝ }
+    ensures { λ _. ⌜ now (xs .exit) ≡ aheadRow at (now (xs .entry)) ⌝ }
+{
+    let to = at - 1;
+    let x = xs[at];
+    xs[at] = xs[to];
+    xs[to] = x;
+}
+
+// `v` in front, the last one out.
+fn put_first(xs: &mut [u64; 12], v: u64)
+    requires { ⌜ length (now xs) ≡ 12 ⌝ }
+    ensures { λ _. ⌜ now (xs .exit) ≡ v ∷ take 11 (now (xs .entry)) ⌝ }
+{
+    let mut i: usize = 11;
+    while 0 < i {
+        xs[i] = xs[i - 1];
+        i -= 1;
+    }
+    xs[0] = v;
+}
+
+fn put_first8(xs: &mut [u8; 12], v: u8)
+    requires { ⌜ length (now xs) ≡ 12 ⌝ }
+    ensures { λ _. ⌜ now (xs .exit) ≡ v ∷ take 11 (now (xs .entry)) ⌝ }
+{
+    let old = *xs;
+    *xs = [
+        v,
+        old[0],
+        old[1],
+        old[2],
+        old[3],
+        old[4],
+        old[5],
+        old[6],
+        old[7],
+        old[8],
+        old[9],
+        old[10],
+    ];
 }
 
 // The first of the first `n` markers that is `marker`, or `n`.
@@ -273,7 +260,8 @@ fn first_of(markers: &[u64], n: usize, marker: u64) -> usize
 // The segment of a marker that is live; 0 for the front.
 fn segment_of(list: &[u64], marker: u64) -> usize
     requires { ⌜ 64 ≤ length (now list) ⌝ }
-    ensures { λ r. ⌜ ((ss : Segments) → Shows ss (now (list .entry)) → Marker ss marker → r ≡ segmentOf ss marker) ⌝ }
+    ensures range { λ r. ⌜ 64 * r + 64 ≤ length (now (list .entry)) ⌝ }
+    ensures place { λ r. ⌜ ((ss : Segments) → Shows ss (now (list .entry)) → Marker ss marker → r ≡ segmentOf ss marker) ⌝ }
 {
     if marker == 0 {
         return 0;

@@ -10,7 +10,7 @@ use lib.ListN.{length}
 use Rattle.lists.specs.Lists.{padded}
 use Rattle.lists.proofs.Tests.{neither, double-not}
 use Rattle.forecast.specs.declared.Forecast.{Forecast}
-use Rattle.forecast.specs.Cells.{forecastOf}
+use Rattle.forecast.specs.Cells.{cells, forecastOf}
 use Rattle.rules.specs.declared.Request.the-variants.{Insert, Delete}
 use Rattle.rules.specs.declared.Totals.{Totals}
 use Rattle.rules.specs.Looking.{Found, Scanned}
@@ -22,10 +22,12 @@ use Rattle.rules.proofs.Numbers as below
 use Rattle.rules.proofs.Refused.{request-refused, lookup-refused, scan-refused, make-refused}
 use Rattle.rules.proofs.Runs.{run-refused}
 use Rattle.rules.proofs.Singly as singly
-use Rattle.host.specs.Words.{cellWords, forecastIn, forecastWords, totalsIn, totalsWords}
+use Rattle.words.specs.Words.{cellWords, forecastIn, forecastWords}
+use Rattle.host.specs.Tallies.{totalsIn, totalsWords}
 use Rattle.host.specs.Calls.{Outcome, sized, notForecast, notTotals, short, over, replyWords, make, lookup, insert, delete, scan, run}
 use Rattle.host.specs.Refused.{Leaves, MakeLeaves, LookupLeaves, ScanLeaves, InsertLeaves, DeleteLeaves, RunLeaves}
-use Rattle.host.proofs.WordLaws.{words-again, totals-again}
+use Rattle.words.proofs.WordLaws.{words-again}
+use Rattle.host.proofs.TallyLaws.{totals-again}
 use Rattle.host.proofs.Numbers.{roomy, listRows, allRows, runRows, below-tells}
 
 -- THE NUMBERS OF THE ROWS BELOW are far from 100
@@ -53,7 +55,7 @@ totals-fit ws t = eqb→eq (length ws) 4 (double-not (eqb (length ws) 4) t)
 
 -- THE CALLS
 pub make-leaves : MakeLeaves
-unfolding make forecastOf padded cellWords
+unfolding make forecastOf padded cellWords cells
 make-leaves list forecast =
     leaves (notForecast forecast) _ _ _ (small (row1 list ∷ []) _ (omega arith) (below.make-tells list)) λ t n s.
     ap (λ (m : rules.Made). m .slots ∷ forecastWords (m .forecast) ∷ []) (make-refused list n)

@@ -1,5 +1,4 @@
-pub mod WordLaws
-pub mod WordTurns
+pub mod TallyLaws
 pub mod Over
 pub mod Sized
 pub mod ChangeGiven

@@ -15,10 +15,12 @@ use Rattle.rules.proofs.Tells.{Decides, tells-if, tells-after}
 use Rattle.rules.proofs.Numbers as below
 use Rattle.rules.proofs.Runs.{run-refused}
 use Rattle.rules.proofs.Singly as singly
-use Rattle.host.specs.Words.{forecastIn, totalsIn}
+use Rattle.words.specs.Words.{forecastIn}
+use Rattle.host.specs.Tallies.{totalsIn}
 use Rattle.host.specs.Calls.{Outcome, sized, notForecast, notTotals, short, make, check, lookup, insert, delete, scan, run}
 use Rattle.host.specs.Refused.{row100, NotForecast, MakeTells, CheckTells, LookupTells, ScanTells, InsertTells, DeleteTells, RunTells}
-use Rattle.host.proofs.WordLaws.{cells-long}
+use Rattle.forecast.specs.Held.{Roomy}
+use Rattle.words.proofs.WordLaws.{forecastIn-roomy}
 
 -- THE TESTS OF SIZES
 unequal : (m n : ℕ) → Decides (not (eqb m n)) (row100 (m ≢ n))
@@ -33,8 +35,8 @@ either-size true b A B d e = (λ t. inl (d .0 tt), λ t w. t)
 either-size false b A B d e = (λ t. inr (e .0 t), λ t w. elim w [ inl x ↦ d .1 tt x | inr y ↦ e .1 t y ])
 
 -- THE CALLS
-pub roomy : (ws : List ℕ) → length (forecastIn ws .cells) ≡ 12
-roomy ws = cells-long 12 (drop 1 ws)
+pub roomy : (ws : List ℕ) → Roomy (forecastIn ws)
+roomy ws = forecastIn-roomy ws
 
 -- 100 comes before what the call below tells
 sized-tells : (wrong : Bool) (W : Type 0) (rs : List Row) (lent : List (List ℕ)) (o : Outcome) → Decides wrong (row100 W) → Tells rs (o .number)

@@ -14,7 +14,8 @@ use Rattle.list.specs.declared.LookupAnswer.{LookupAnswer}
 use Rattle.list.specs.declared.ScanAnswer.{ScanAnswer}
 use Rattle.list.specs.Admits.{MakeAdmits, CheckAdmits, LookupAdmits, ScanAdmits}
 use Rattle.list.specs.Answers.{makeNumber, checkNumber, lookupPaper, scanPaper}
-use Rattle.host.specs.Words.{forecastIn, forecastWords}
+use Rattle.words.specs.Words.{forecastIn, forecastWords, saturated}
+use Rattle.words.proofs.Called.{check-same}
 use Rattle.host.specs.Calls.{make, check, lookup, scan, notForecast, short, Gives}
 use Rattle.host.proofs.Over.{over-two}
 use Rattle.host.proofs.Sized.{is-forecast, is-long, misfit, fitted}
@@ -36,12 +37,12 @@ module _ (list forecast : List ℕ) where
   unfolding check
   check-misfit e = misfit (notForecast forecast) _ _ e
 
-  pub check-given : (F : Forecast) (r : CheckAnswer) (n : ℕ) → length forecast ≡ 37 → F ≡ forecastIn forecast → CheckAdmits list F r → n ≡ checkNumber r
+  pub check-given : (F : Forecast) (r : CheckAnswer) (n : ℕ) → length forecast ≡ 37 → F ≡ saturated (forecastIn forecast) → CheckAdmits list F r → n ≡ checkNumber r
       → Gives (check list forecast) n []
   unfolding check
   check-given F r n l f a e =
       fitted (notForecast forecast) _ _ _ _ (is-forecast forecast l)
-      (record { number = e ∙ a .answer ∙ ap (checks.check list) f; slices = refl })
+      (record { number = e ∙ a .answer ∙ ap (checks.check list) f ∙ check-same list (forecastIn forecast); slices = refl })
 
 module _ (list : List ℕ) (key : ℕ) (reply : List ℕ) where
   pub lookup-misfit : T (short reply 2) → Gives (lookup list key reply) 100 (reply ∷ [])

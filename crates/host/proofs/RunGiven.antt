@@ -1,17 +1,26 @@
 -- The run: from what the run below it promises to what it gives.
 use Prim.Native.Nat.{ℕ, _≤_}
-use mathlib.Core.Path.{_≡_, ap, _∙_}
+use mathlib.Core.Path.{_≡_, sym, ap, _∙_}
+use mathlib.Core.Logic.{_⊎_, inl, inr, _≢_}
+use native.Mathlib.Omega.{arith}
 use mathlib.Core.Bool.{not, _||_}
-use lib.Dec.{T}
+use lib.Dec.{T, eqb, eqb→eq}
 use mathlib.Core.List.{List, [], _∷_}
 use lib.ListN.{length, drop}
-use Rattle.lists.proofs.Tests.{nor}
+use Rattle.lists.proofs.Tests.{nor, tested, neqb→ne}
 use Rattle.forecast.specs.declared.Forecast.{Forecast}
 use Rattle.rules.specs.declared.Totals.{Totals}
 use Rattle.rules.specs.Calls as rules
 use Rattle.run.specs.declared.Run.{Run}
 use Rattle.run.specs.Admits.{RunAdmits}
-use Rattle.host.specs.Words.{forecastIn, forecastWords, totalsIn, totalsWords}
+use Rattle.rules.specs.Checks as checks
+use Rattle.rules.specs.Rows.{Tells, row1, row2, row3, row4, row9, row10}
+use Rattle.rules.proofs.Numbers as below
+use Rattle.rules.proofs.Singly as singly
+use Rattle.words.specs.Words.{forecastIn, forecastWords, saturated}
+use Rattle.words.proofs.WordLaws.{words-again, forecastIn-roomy}
+use Rattle.words.proofs.Called.{run-same}
+use Rattle.host.specs.Tallies.{totalsIn, totalsWords}
 use Rattle.host.specs.Calls.{run, notForecast, notTotals, short, over, Gives}
 use Rattle.host.proofs.Sized.{is-forecast, is-totals, is-long, misfit, fitted}
 
@@ -24,20 +33,71 @@ module _ (list forecast requests : List ℕ) (allowance : ℕ) (totals reply : L
   fits : length forecast ≡ 37 → length totals ≡ 4 → 4 ≤ length reply → T (not (notForecast forecast || (notTotals totals || short reply 4)))
   fits l m n = nor (notForecast forecast) _ (is-forecast forecast l) (nor (notTotals totals) _ (is-totals totals m) (is-long reply 4 n))
 
+  abbrev W : rules.Worked
+  W = rules.run list (forecastIn forecast) requests allowance (totalsIn totals)
+
+  -- a checked run stops by 0, 9 or 10, and check gives at most 4
+  late : checks.check list (forecastIn forecast) ≡ 0 → 1 ≤ W .reply .stop → W .reply .stop ≤ 4 → ⊥
+  late z a b = stops (singly.run-tells list (forecastIn forecast) requests allowance (totalsIn totals) z .0)
+    where
+      stops : Tells (row9 requests (W .reply .place) ∷ row10 requests allowance W ∷ []) (W .reply .stop) → ⊥
+      stops (inl (u, e)) = omega arith
+      stops (inr (u, inl (v, e))) = omega arith
+      stops (inr (u, inr (v, e))) = omega arith
+
+  early : checks.check list (forecastIn forecast) ≢ 0 → (checks.check list (forecastIn forecast) ≡ 0) ⊎ (5 ≤ checks.check list (forecastIn forecast)) → ⊥
+  early z (inl e) = z e
+  early z (inr h) = gives (below.check-tells list (forecastIn forecast) (forecastIn-roomy forecast))
+    where
+      gives : Tells (row1 list ∷ row2 list ∷ row3 list ∷ row4 list (forecastIn forecast) ∷ []) (checks.check list (forecastIn forecast)) → ⊥
+      gives (inl (u, e)) = omega arith
+      gives (inr (u, inl (v, e))) = omega arith
+      gives (inr (u, inr (v, inl (x, e)))) = omega arith
+      gives (inr (u, inr (v, inr (x, inl (y, e))))) = omega arith
+      gives (inr (u, inr (v, inr (x, inr (y, e))))) = omega arith
+
+  -- a run that is not refused at once stops by neither of 1 to 4; one that is stops by one of them
+  back : (n : ℕ) (forecast' done : List ℕ) → length forecast ≡ 37 → n ≡ W .reply .stop
+      → done ≡ forecastWords (rules.run list (saturated (forecastIn forecast)) requests allowance (totalsIn totals) .forecast)
+      → ((((n ≡ 0) ⊎ (5 ≤ n)) × (forecast' ≡ done)) ⊎ (((1 ≤ n) × (n ≤ 4)) × (forecast' ≡ forecast)))
+      → forecast' ≡ forecastWords (W .forecast)
+  back n forecast' done l e d w =
+      let same = run-same list (forecastIn forecast) requests allowance (totalsIn totals) (forecastIn-roomy forecast) in
+      elim (tested (eqb (checks.check list (forecastIn forecast)) 0)) [
+        | inl t ↦
+            (let z : checks.check list (forecastIn forecast) ≡ 0 = eqb→eq _ _ t in
+            elim w [
+              | inl x ↦ x .1 ∙ d ∙ ap forecastWords (same .done z)
+              | inr x ↦ absurd (late z (omega (arith, e, x .0 .0)) (omega (arith, e, x .0 .1)))
+            ])
+        | inr t ↦
+            (let z : checks.check list (forecastIn forecast) ≢ 0 = neqb→ne _ _ t in
+            let q = same .left z in
+            elim w [
+              | inl x ↦ absurd (early z (elim (x .0) [ inl y ↦ inl (sym (q .1) ∙ sym e ∙ y) | inr y ↦ inr (omega (arith, e, q .1)) ]))
+              | inr x ↦ x .1 ∙ sym (ap forecastWords (q .0) ∙ words-again forecast l)
+            ])
+      ]
+
+  -- the words written are the same where the run is worked, and where it is refused at once those lent are left
   pub run-given : (F : Forecast) (T : Totals) (r : Run) (list' forecast' totals' reply' : List ℕ) → length forecast ≡ 37 → length totals ≡ 4 → 4 ≤ length reply
-      → F ≡ forecastIn forecast → T ≡ totalsIn totals → RunAdmits list F requests allowance T r list' → forecast' ≡ forecastWords (r .reply .forecast)
+      → F ≡ saturated (forecastIn forecast) → T ≡ totalsIn totals → RunAdmits list F requests allowance T r list'
+      → ((((r .reply .stop ≡ 0) ⊎ (5 ≤ r .reply .stop)) × (forecast' ≡ forecastWords (r .reply .forecast))) ⊎ (((1 ≤ r .reply .stop) × (r .reply .stop ≤ 4)) × (forecast' ≡ forecast)))
       → totals' ≡ totalsWords (r .totals) → reply' ≡ over (r .reply .worked ∷ r .reply .refused ∷ r .reply .moves ∷ r .reply .place ∷ []) reply
       → Gives (run list forecast requests allowance totals reply) (r .reply .stop) (list' ∷ forecast' ∷ totals' ∷ reply' ∷ [])
   unfolding run
-  run-given F T r list' forecast' totals' reply' l m n f g a wf wt wr =
-      let is : rules.run list F requests allowance T ≡ rules.run list (forecastIn forecast) requests allowance (totalsIn totals) = λ i. rules.run list (f i) requests allowance (g i) in
-      let slots = a .slots-left ∙ ap (λ (w : rules.Worked). w .slots) is in
-      let words = wf ∙ ap forecastWords (a .forecast ∙ ap (λ (w : rules.Worked). w .forecast) is) in
-      let sums = wt ∙ ap totalsWords (a .totals ∙ ap (λ (w : rules.Worked). w .totals) is) in
-      let worked = a .worked ∙ ap (λ (w : rules.Worked). w .reply .worked) is in
-      let refused = a .refused ∙ ap (λ (w : rules.Worked). w .reply .refused) is in
-      let moves = a .moves ∙ ap (λ (w : rules.Worked). w .reply .moves) is in
-      let place = a .place ∙ ap (λ (w : rules.Worked). w .reply .place) is in
+  run-given F T r list' forecast' totals' reply' l m n f g a w wt wr =
+      let is : rules.run list F requests allowance T ≡ rules.run list (saturated (forecastIn forecast)) requests allowance (totalsIn totals) = λ i. rules.run list (f i) requests allowance (g i) in
+      let same = run-same list (forecastIn forecast) requests allowance (totalsIn totals) (forecastIn-roomy forecast) in
+      let said′ = same .reply in
+      let slots = a .slots-left ∙ ap (λ (w : rules.Worked). w .slots) is ∙ same .slots-left in
+      let stop = a .stop ∙ ap (λ (w : rules.Worked). w .reply .stop) is ∙ ap (λ (x : rules.Reply). x .stop) said′ in
+      let words = back (r .reply .stop) forecast' (forecastWords (r .reply .forecast)) l stop (ap forecastWords (a .forecast ∙ ap (λ (w : rules.Worked). w .forecast) is)) w in
+      let sums = wt ∙ ap totalsWords (a .totals ∙ ap (λ (w : rules.Worked). w .totals) is ∙ same .totals) in
+      let worked = a .worked ∙ ap (λ (w : rules.Worked). w .reply .worked) is ∙ ap (λ (x : rules.Reply). x .worked) said′ in
+      let refused = a .refused ∙ ap (λ (w : rules.Worked). w .reply .refused) is ∙ ap (λ (x : rules.Reply). x .refused) said′ in
+      let moves = a .moves ∙ ap (λ (w : rules.Worked). w .reply .moves) is ∙ ap (λ (x : rules.Reply). x .moves) said′ in
+      let place = a .place ∙ ap (λ (w : rules.Worked). w .reply .place) is ∙ ap (λ (x : rules.Reply). x .place) said′ in
       let said = wr ∙ (λ i. worked i ∷ refused i ∷ moves i ∷ place i ∷ drop 4 reply) in
       fitted (notForecast forecast || (notTotals totals || short reply 4)) _ _ _ _ (fits l m n)
-      (record { number = a .stop ∙ ap (λ (w : rules.Worked). w .reply .stop) is; slices = λ i. slots i ∷ words i ∷ sums i ∷ said i ∷ [] })
+      (record { number = stop; slices = λ i. slots i ∷ words i ∷ sums i ∷ said i ∷ [] })

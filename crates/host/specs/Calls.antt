@@ -11,7 +11,8 @@ use Rattle.rules.specs.Looking.{Found, Scanned}
 use Rattle.rules.specs.Runs.{one}
 use Rattle.rules.specs.Checks as checks
 use Rattle.rules.specs.Calls as rules
-use Rattle.host.specs.Words.{forecastIn, forecastWords, totalsIn, totalsWords}
+use Rattle.words.specs.Words.{forecastIn, forecastWords}
+use Rattle.host.specs.Tallies.{totalsIn, totalsWords}
 
 pub record Outcome : Type 0 where
   pub number : ℕ

@@ -1,3 +1,3 @@
-pub mod Words
+pub mod Tallies
 pub mod Calls
 pub mod Refused

@@ -6,7 +6,8 @@ use mathlib.Core.List.{List, [], _∷_}
 use lib.ListN.{length, replicate}
 use Rattle.rules.specs.Calls as rules
 use Rattle.rules.specs.Rows.{Row, Tells, row1, row2, row3, row4, row5, row6, row7, row8, row9, row10}
-use Rattle.host.specs.Words.{forecastIn, totalsIn}
+use Rattle.words.specs.Words.{forecastIn}
+use Rattle.host.specs.Tallies.{totalsIn}
 use Rattle.host.specs.Calls.{Outcome, over, make, check, lookup, insert, delete, scan, run}
 
 -- EACH NUMBER IS GIVEN EXACTLY WHEN ITS ROW APPLIES AND NONE BEFORE IT DOES; 100 is the first.

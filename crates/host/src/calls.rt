@@ -4,7 +4,6 @@ ghost use Rattle.host.specs.Calls.{Gives};
 ghost use Rattle.host.specs.Calls as calls;
 use crate::FORECAST;
 use crate::MISFIT;
-use crate::words;
 
 // Makes a list and its forecast empty.
 #[no_mangle]

@@ -4,7 +4,6 @@ ghost use Rattle.host.specs.Calls.{Gives};
 ghost use Rattle.host.specs.Calls as calls;
 use crate::FORECAST;
 use crate::MISFIT;
-use crate::words;
 
 // Puts a new key in.
 #[no_mangle]
@@ -27,9 +26,13 @@ pub extern "C" fn ff_insert(
     let answer = done.answer;
     let number = list::telling::insert_number(answer);
     let moves = list::telling::insert_moves(answer);
+    reply[0] = moves;
+    // Refused: the words stay as they were lent.
+    if number != 0 {
+        return number;
+    }
     let noted = done.forecast;
     words::write_forecast(noted, forecast);
-    reply[0] = moves;
     number
 }
 
@@ -55,9 +58,12 @@ pub extern "C" fn ff_delete(
     let told = list::telling::delete_number(answer);
     let moved = list::telling::delete_moves(answer);
     let sparse = list::telling::delete_sparse(answer);
-    let dropped = done.forecast;
-    words::write_forecast(dropped, forecast);
     reply[0] = moved;
     reply[1] = sparse;
+    if told != 0 {
+        return told;
+    }
+    let dropped = done.forecast;
+    words::write_forecast(dropped, forecast);
     told
 }

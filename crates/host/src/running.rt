@@ -8,7 +8,7 @@ ghost use Rattle.host.specs.Calls as calls;
 use crate::FORECAST;
 use crate::MISFIT;
 use crate::TOTALS;
-use crate::words;
+use crate::tallies;
 use run::Reply;
 
 // A run's reply: records worked, records refused, moves, and the byte place.
@@ -44,12 +44,19 @@ pub extern "C" fn ff_run(
         return MISFIT;
     }
     let given = words::read_forecast(forecast);
-    let before = words::read_totals(totals);
+    let before = tallies::read_totals(totals);
     let ran = run::running::run_with(list, given, requests, allowance, before);
     let done = ran.reply;
+    tallies::write_totals(ran.totals, totals);
+    write_reply(done, reply);
+    let stop = done.stop;
+    // Refused at once: the words stay as they were lent.
+    if 0 < stop {
+        if stop < 5 {
+            return stop as u64;
+        }
+    }
     let left = done.forecast;
     words::write_forecast(left, forecast);
-    words::write_totals(ran.totals, totals);
-    write_reply(done, reply);
-    done.stop as u64
+    stop as u64
 }

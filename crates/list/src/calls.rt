@@ -27,7 +27,7 @@ pub fn make(list: &mut [u64]) -> MakeReply
         };
     }
     let n = list.len();
-    slots::movement::clear(list, 0, n);
+    moves::clear(list, 0, n);
     MakeReply {
         forecast,
         answer: MakeAnswer::Made,

@@ -25,7 +25,7 @@ use Rattle.rules.specs.Shares.{shares, capacity, cellsOf}
 use Rattle.rules.specs.Placing.{Room}
 use Rattle.rules.specs.Checks.{sharesOf, checkList, check}
 use Rattle.rules.specs.Calls.{roomOf}
-use Rattle.rules.specs.Demand1.{Roomy}
+use Rattle.forecast.specs.Held.{Roomy}
 use Rattle.rules.specs.Readings.{Proper}
 use Rattle.rules.proofs.Table.{ends}
 use Rattle.rules.proofs.Good.{Good}
@@ -57,7 +57,7 @@ passed slots e =
         ]
 
 -- list and forecast
-both-pass : (slots : List ℕ) (F : Forecast) → check slots F ≡ 0 → (checkList slots ≡ 0) × T (isSound (faultOf (cellsOf (sharesOf slots)) (segmentsOf slots) F))
+pub both-pass : (slots : List ℕ) (F : Forecast) → check slots F ≡ 0 → (checkList slots ≡ 0) × T (isSound (faultOf (cellsOf (sharesOf slots)) (segmentsOf slots) F))
 unfolding check
 both-pass slots F e = go (eqb (checkList slots) 0) (eqb→eq _ _) (neqb→ne _ _) (isSound (faultOf (cellsOf (sharesOf slots)) (segmentsOf slots) F)) e
   where

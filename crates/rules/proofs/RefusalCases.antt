@@ -7,7 +7,7 @@ use Rattle.slots.specs.Segments.{heightOf, segmentsOf}
 use Rattle.slots.specs.Orders.{orderOf}
 use Rattle.slots.specs.Keys.{segmentOf}
 use Rattle.forecast.specs.declared.Forecast.{Forecast}
-use Rattle.forecast.specs.Cells.{zeroCell}
+use Rattle.forecast.specs.Cells.{cells}
 use Rattle.forecast.specs.Faults.{faultAt, faultOf}
 use Rattle.rules.specs.declared.Request.the-variants.{Insert}
 use Rattle.rules.specs.Shares.{shares}
@@ -23,7 +23,7 @@ slots a b = upFrom 1 a ++ (replicate (64 - a) 0 ++ (upFrom 101 b ++ replicate (6
 
 -- a forecast with one cell, in use, whose count is 0
 abbrev uncounted : Forecast
-uncounted = record { cells = replicate 12 zeroCell; used = 1 }
+uncounted = record { markers = replicate 12 0; segments = replicate 12 0; counts = replicate 12 0; used = 1 }
 
 -- 64 keys are allowed at height 1, and 65 are not
 full-passes : checkList (slots 33 31) ≡ 0
@@ -36,11 +36,11 @@ over-full = refl
 
 -- a bad forecast is told of a good list, and not of a bad one
 forecast-told : check (slots 33 31) uncounted ≡ 4
-unfolding check checkList heightOf orderOf faultOf faultAt segmentsOf segmentOf
+unfolding check checkList heightOf orderOf faultOf faultAt cells segmentsOf segmentOf
 forecast-told = refl
 
 list-told-first : check (slots 33 32) uncounted ≡ 3
-unfolding check checkList heightOf orderOf faultOf faultAt segmentsOf segmentOf
+unfolding check checkList heightOf orderOf faultOf faultAt cells segmentsOf segmentOf
 list-told-first = refl
 
 -- key 0 is refused, not absent

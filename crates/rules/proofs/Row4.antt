@@ -23,7 +23,9 @@ use Rattle.forecast.proofs.Readings.{BadBy}
 use Rattle.forecast.proofs.Faults.{fault-bad, bad-fault}
 use Rattle.rules.specs.Shares.{cellsOf}
 use Rattle.rules.specs.Checks.{sharesOf}
-use Rattle.rules.specs.Demand1.{Roomy}
+use Rattle.forecast.specs.Cells.{cells}
+use Rattle.forecast.specs.Held.{Roomy}
+use Rattle.forecast.proofs.Stepping.{roomy-12}
 use Rattle.rules.specs.Rows.{cellOf, WrongSegment, BadCell, noCount, overCount, anothers, notLive, wrongSegment, BadForecast, tooMany, badCell, notZero, row4}
 use Rattle.rules.proofs.Checked.{Passed, keys-shown}
 use Rattle.rules.proofs.Tells.{Decides}
@@ -65,6 +67,7 @@ module _ (slots : List ℕ) (K : Passed slots) where
     -- two used cells with one marker: the later one repeats the earlier, or too many are used for their room
     twice : Roomy F → P ≤ 12 → (i j : ℕ) → i < F .used → j < F .used → j ≢ i → cellOf F j .marker ≡ cellOf F i .marker → BadBy P (segmentsOf slots) F
     twice r p i j h k n e =
+        let m : length (cells F) ≡ 12 = roomy-12 F r in
         elim (decLt P (F .used)) [
           | yes u ↦ BadBy.tooMany u
           | no u ↦ elim (decLt j i) [ yes l ↦ BadBy.repeated i j l h (omega arith) e | no l ↦ BadBy.repeated j i (omega arith) k (omega arith) (sym e) ]

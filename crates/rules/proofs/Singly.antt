@@ -20,7 +20,8 @@ use Rattle.rules.specs.Runs.{Tally, nothing, one, tallied, recordsOf, Ra
 use Rattle.rules.specs.Calls.{roomOf, Called, unchanged, changed, request, Worked, worked}
 use Rattle.rules.specs.Rows.{Tells, row9, row10}
 use Rattle.rules.specs.History.{after}
-use Rattle.rules.specs.Demand1.{Roomy, Series, next, singly, begin, Equals, RunTells, RunIsSingly, RunKeeps}
+use Rattle.forecast.specs.Held.{Roomy}
+use Rattle.rules.specs.Demand1.{Series, next, singly, begin, Equals, RunTells, RunIsSingly, RunKeeps}
 use Rattle.rules.proofs.Table.{lawful}
 use Rattle.rules.proofs.Accepted.{refused-is}
 use Rattle.rules.proofs.Good.{Good, good-next}

@@ -15,7 +15,7 @@ use Rattle.slots.specs.Keys.{Listed, member, put, cut, segmentOf}
 use Rattle.slots.proofs.Windows.{start-le, lt-end}
 use Rattle.slots.proofs.Counts.{count-set-in}
 use Rattle.slots.proofs.Rising.{length-put, length-cut}
-use Rattle.slots.proofs.Gaps.{take-drop}
+use Rattle.moves.proofs.Gaps.{take-drop}
 use Rattle.slots.proofs.Keys.{Between, member→mem, not-member, segment-mem, in-part, rising-part, around, home-between, keys-drop, keys-put, keys-cut}
 use Rattle.forecast.specs.declared.Cell.{Cell}
 use Rattle.forecast.specs.Cells.{weight}

@@ -10,6 +10,7 @@ use lib.ListN.{length, take}
 use Rattle.lists.specs.Lists.{All}
 use Rattle.forecast.specs.declared.Forecast.{Forecast}
 use Rattle.forecast.specs.Cells.{forecastOf}
+use Rattle.forecast.specs.Held.{Roomy}
 use Rattle.rules.specs.declared.Request.{Request}
 use Rattle.rules.specs.declared.Request.the-variants.{Bad}
 use Rattle.rules.specs.declared.Totals.{Totals}
@@ -19,10 +20,6 @@ use Rattle.rules.specs.Runs.{one, recordsOf, added}
 use Rattle.rules.specs.Checks.{sharesOf, check}
 use Rattle.rules.specs.Calls.{roomOf, make, lookup, scan, request, insert, delete, unchanged, Worked, stoppedAtOnce, run}
 use Rattle.rules.specs.Rows.{Tells, NoneOf, row1, row2, row3, row4, row5, row6, row7, row8, row9, row10}
-
--- A forecast has room for 12 cells.
-abbrev pub Roomy : Forecast → Type 0
-Roomy F = length (F .cells) ≡ 12
 
 -- EACH NUMBER IS GIVEN EXACTLY WHEN ITS ROW APPLIES AND NONE BEFORE IT DOES
 abbrev pub MakeTells : Type 0

@@ -8,7 +8,7 @@ use Rattle.slots.specs.Segments.{live}
 use Rattle.slots.specs.Orders.{slotAt}
 use Rattle.forecast.specs.declared.Cell.{Cell}
 use Rattle.forecast.specs.declared.Forecast.{Forecast}
-use Rattle.forecast.specs.Cells.{zeroCell}
+use Rattle.forecast.specs.Cells.{zeroCell, cells}
 use Rattle.rules.specs.Runs.{requestOf}
 use Rattle.rules.specs.Calls.{request, Worked}
 
@@ -48,7 +48,7 @@ row3 slots = record { no = 3; when = (h : ℕ) × (length slots ≡ 64 * 2 ^ h) 
 -- 4: the forecast uses over P cells; or a used cell's count is not 1 to P, its marker is another's or neither 0 nor live, or its segment
 -- is wrong; or an unused cell is not all zeros.
 abbrev pub cellOf : Forecast → ℕ → Cell
-cellOf F i = getD (F .cells) i zeroCell
+cellOf F i = getD (cells F) i zeroCell
 
 abbrev pub NotLiveAt : List ℕ → ℕ → Type 0
 NotLiveAt slots x = (x ≢ 0) × ((t : ℕ) → t < length slots → slotAt slots t ≢ x)
@@ -68,7 +68,7 @@ pub data BadCell (P : ℕ) (slots : List ℕ) (F : Forecast) (i : ℕ) : Type 0 
 pub data BadForecast (P : ℕ) (slots : List ℕ) (F : Forecast) : Type 0 where
   tooMany : P < F .used → BadForecast P slots F
   badCell : (i : ℕ) → i < F .used → BadCell P slots F i → BadForecast P slots F
-  notZero : (i : ℕ) → F .used ≤ i → i < length (F .cells) → cellOf F i ≢ zeroCell → BadForecast P slots F
+  notZero : (i : ℕ) → F .used ≤ i → i < length (cells F) → cellOf F i ≢ zeroCell → BadForecast P slots F
 
 abbrev pub row4 : List ℕ → Forecast → Row
 row4 slots F = record { no = 4; when = (h : ℕ) × (length slots ≡ 64 * 2 ^ h) × BadForecast (6 + h) slots F }

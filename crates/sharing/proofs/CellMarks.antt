@@ -1,5 +1,5 @@
 -- Marks, cell by cell: what one more cell does to the weights of keys and to their marks.
-use mathlib.Core.Path.{_≡_, refl, sym, ap, ap₂, _∙_}
+use mathlib.Core.Path.{_≡_, refl, sym, ap, ap₂, _∙_, subst}
 use mathlib.Core.Bool.{Bool, true, false, not}
 use mathlib.Core.Logic.{_≢_, inl, inr}
 use mathlib.Core.List.{List, [], _∷_, _++_, map, List·Memᴰ as Mem, List·Memᴰ·head as here, List·Memᴰ·tail as there, List·Memᴰ·not-nil as nowhere}
@@ -23,7 +23,7 @@ use Rattle.slots.proofs.Keys.{member→mem, not-member}
 use Rattle.slots.proofs.Halving.{place-of, found, not-found}
 use Rattle.forecast.specs.declared.Cell.{Cell}
 use Rattle.forecast.specs.declared.Forecast.{Forecast}
-use Rattle.forecast.specs.Cells.{zeroCell, usedCells, cellAt, weight}
+use Rattle.forecast.specs.Cells.{cells, zeroCell, usedCells, cellAt, weight}
 use Rattle.forecast.specs.Held.{Tidy, Fitting}
 use Rattle.forecast.proofs.Stepping.{cells-used, cell-is}
 use Rattle.sharing.specs.Marks.{weightBelow, Marked}
@@ -159,10 +159,10 @@ module _ (cs : List Cell) (c : Cell) (ks at ws at′ ws′ : List ℕ) (r : Risi
 
 -- THE NEXT of a forecast's cells
 pub marking-next : (F : Forecast) → Tidy F → Fitting F → (i : ℕ) → i < F .used → (ks at ws at′ ws′ : List ℕ) → Rising ks → length at′ ≤ 12
-    → Marking (take i (usedCells F)) ks at ws → OneMarked (getD (F .cells) i zeroCell) ks at ws at′ ws′ → Marking (take (i + 1) (usedCells F)) ks at′ ws′
-marking-next F tidy fits i h ks at ws at′ ws′ r room k o =
+    → Marking (take i (usedCells F)) ks at ws → (d : Cell) → d ≡ getD (cells F) i zeroCell → OneMarked d ks at ws at′ ws′ → Marking (take (i + 1) (usedCells F)) ks at′ ws′
+marking-next F tidy fits i h ks at ws at′ ws′ r room k d q o =
     rw (add-one, take-suc (usedCells F) i zeroCell h′)
-    (marking-more (take i (usedCells F)) c ks at ws at′ ws′ r (fits .small c (at-mem (usedCells F) i zeroCell h′)) differ room k (rw (cell-is F tidy i) at o))
+    (marking-more (take i (usedCells F)) c ks at ws at′ ws′ r (fits .small c (at-mem (usedCells F) i zeroCell h′)) differ room k (subst (λ (x : Cell). OneMarked x ks at ws at′ ws′) (q ∙ cell-is F tidy i) o))
   where
     c : Cell
     c = getD (usedCells F) i zeroCell

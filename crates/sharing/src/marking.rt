@@ -70,7 +70,11 @@ pub fn mark(window: &[u64], m: usize, f: Forecast, at: &mut [usize], weights: &m
     let mut n = 0;
     let mut i = 0;
     while i < used {
-        let cell = f.cells[i];
+        let cell = Cell {
+            marker: f.markers[i],
+            segment: forecast::wide(f.segments[i]),
+            count: forecast::wide(f.counts[i]),
+        };
         n = mark_cell(window, m, cell, n, at, weights);
         i += 1;
     }

@@ -11,8 +11,8 @@ use Rattle.lists.proofs.Members.{mem-take, mem-drop, at-mem}
 use Rattle.lists.proofs.Joined.{length-joined}
 use Rattle.lists.proofs.Fill.{length-padded, take-padded-all}
 use Rattle.slots.specs.Segments.{pad, render}
-use Rattle.slots.specs.Moves.{opened, closed, inPart, gather, Packed}
-use Rattle.slots.proofs.Gaps.{opened-pad, closed-pad}
+use Rattle.moves.specs.Moves.{opened, closed, inPart, gather, Packed}
+use Rattle.moves.proofs.Gaps.{opened-pad, closed-pad}
 
 -- A PART LENT AND BACK
 -- what the borrow checker leaves where the part from a to e has come back with f done to it

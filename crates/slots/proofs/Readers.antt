@@ -20,7 +20,7 @@ use Rattle.slots.specs.declared.Order.the-variants.{Kept, NotRising, Aft
 use Rattle.slots.specs.Segments.{isKey, live}
 use Rattle.slots.specs.Orders.{slotAt, notRising, afterGap, orderOf, isKept}
 use Rattle.slots.specs.Shown.{Reads}
-use Rattle.slots.specs.Stretches.{faultOf}
+use Rattle.slots.specs.Stretches.{Sound, faultOf}
 use Rattle.slots.proofs.Orders.{in-list, fault, falls, gaps, falling}
 
 -- THE ORDER THAT IS TOLD
@@ -36,13 +36,7 @@ module _ (xs : List ℕ) where
   unfolding orderOf
   order-kept h = rw (first-none (fault xs) 0 (length xs) (λ k p q. h k (omega arith)), orderOf)
 
--- WHAT IS KNOWN of the slots below j: none breaks the order, top is the largest, and keys of them hold keys
-pub record Sound (xs : List ℕ) (j top keys : ℕ) : Type 0 where
-  pub faultless : (k : ℕ) → k < j → T (not (fault xs k))
-  pub most : (k : ℕ) → k < j → slotAt xs k ≤ top
-  pub there : top ≢ 0 → (k : ℕ) × (k < j) × (slotAt xs k ≡ top)
-  pub many : keys ≡ length (live (take j xs))
-
+-- WHAT IS KNOWN of the slots passed
 module _ {xs : List ℕ} where
   -- before the first slot
   pub sound-none : Sound xs 0 0 0

@@ -11,9 +11,9 @@ use Rattle.lists.proofs.Tests.{or-left, or-right}
 use Rattle.slots.specs.declared.Order.{Order}
 use Rattle.slots.specs.Orders.{slotAt, notRising, afterGap}
 use Rattle.slots.specs.Shown.{Reads}
-use Rattle.slots.specs.Stretches.{before, Rises, AllGaps, faultOf}
+use Rattle.slots.specs.Stretches.{before, Rises, AllGaps, Sound, faultOf}
 use Rattle.slots.proofs.Orders.{fault, gapping}
-use Rattle.slots.proofs.Readers.{Sound, sound-as, sound-key, sound-gap, sound-low, sound-fault}
+use Rattle.slots.proofs.Readers.{sound-as, sound-key, sound-gap, sound-low, sound-fault}
 use Rattle.slots.proofs.Stretched.{before-first, before-next}
 
 module _ (xs : List ℕ) where

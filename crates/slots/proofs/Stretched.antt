@@ -36,15 +36,40 @@ module _ (xs : List ℕ) (a last : ℕ) where
   next-up : (i j : ℕ) → j ≡ i + 1 → a ≤ i → slotAt xs i < slotAt xs j → Up j → Up (j + 1)
   next-up i j e h l u = below-more _ _ u (λ m. omega (arith, ap (before xs a last) e, before-next xs a last i h))
 
-  -- four slots, each above the one before it
-  pub four-up : last < slotAt xs a → slotAt xs a < slotAt xs (a + 1) → slotAt xs (a + 1) < slotAt xs (a + 2) → slotAt xs (a + 2) < slotAt xs (a + 3)
-      → Rises xs a (a + 4) last (a + 4)
-  four-up p q r s =
-      let one : Up (a + 1) = below-more _ _ (λ k l h. absurd (omega arith)) (λ h. omega (arith, before-first xs a last a refl)) in
-      let two : Up (a + 1 + 1) = next-up a (a + 1) refl (omega arith) q one in
-      let three : Up (a + 2 + 1) = next-up (a + 1) (a + 2) (omega arith) (omega arith) r (λ k l. two k (omega arith)) in
-      let four : Up (a + 3 + 1) = next-up (a + 2) (a + 3) (omega arith) (omega arith) s (λ k l. three k (omega arith)) in
-      record { from = omega arith; to = omega arith; rises = λ k h l. four k (omega arith) h; stops = λ l. absurd (omega arith) }
+  -- one to four slots, each above the one before it
+  module _ (p : last < slotAt xs a) where
+    pub up-one : Up (a + 1)
+    up-one = below-more _ _ (λ k l h. absurd (omega arith)) (λ h. omega (arith, before-first xs a last a refl))
+
+    module _ (q : slotAt xs a < slotAt xs (a + 1)) where
+      pub up-two : Up (a + 2)
+      up-two = λ k l. next-up a (a + 1) refl (omega arith) q up-one k (omega arith)
+
+      module _ (r : slotAt xs (a + 1) < slotAt xs (a + 2)) where
+        pub up-three : Up (a + 3)
+        up-three = λ k l. next-up (a + 1) (a + 2) (omega arith) (omega arith) r up-two k (omega arith)
+
+        pub up-four : slotAt xs (a + 2) < slotAt xs (a + 3) → Up (a + 4)
+        up-four s = λ k l. next-up (a + 2) (a + 3) (omega arith) (omega arith) s up-three k (omega arith)
+
+  -- they rise up to r: all, or not further, since slot r is not above slot i before it
+  pub up-all : (r : ℕ) → a ≤ r → Up r → Rises xs a r last r
+  up-all r h u = record { from = h; to = omega arith; rises = λ k l q. u k q l; stops = λ l. absurd (omega arith) }
+
+  pub up-stop : (e i r : ℕ) → r ≡ i + 1 → a ≤ i → r ≤ e → Up r → slotAt xs r ≤ slotAt xs i → Rises xs a e last r
+  up-stop e i r q h l u s =
+      record { from = omega arith; to = l; rises = λ k m n. u k n m; stops = λ m. omega (arith, ap (before xs a last) q, before-next xs a last i h) }
+
+  pub up-never : (e : ℕ) → a ≤ e → slotAt xs a ≤ last → Rises xs a e last a
+  up-never e h s = record { from = omega arith; to = h; rises = λ k l q. absurd (omega arith); stops = λ m. omega (arith, before-first xs a last a refl) }
+
+  -- where they stop does not depend on where the look ends
+  pub rises-far : (e f r : ℕ) → e ≤ f → r < e → Rises xs a e last r → Rises xs a f last r
+  rises-far e f r h l p = record { from = p .from; to = omega arith; rises = p .rises; stops = λ m. p .stops l }
+
+  -- where they do not stop they rise throughout
+  pub rises-all : (e r : ℕ) → e ≤ r → Rises xs a e last r → Up e
+  rises-all e r h p k l m = p .rises k m (omega arith)
 
   -- from m, up to which they rise, and from a is the same
   module _ (m top : ℕ) (h : a ≤ m) (u : Up m) (t : top ≡ before xs a last m) where

@@ -2,6 +2,5 @@ pub mod Segments
 pub mod Windows
 pub mod Keys
 pub mod Orders
-pub mod Moves
 pub mod Shown
 pub mod Stretches

@@ -5,8 +5,11 @@ use mathlib.Core.Option.{Option·getD}
 use mathlib.Core.List.{List, map}
 use lib.Dec.{eqb}
 use lib.ListN.{length}
-use Rattle.lists.specs.Lists.{joined, only, padded, parts}
+use Rattle.lists.specs.Lists.{joined, only, parts}
 use Rattle.lists.specs.Search.{first}
+-- A segment is 64 slots: the keys stand first, gaps follow.
+pub use Rattle.moves.specs.Layout.{pad}
+unfoldable pub use Rattle.moves.specs.Layout.{render}
 
 -- A key is a number from 1 up. 0 marks a gap.
 abbrev pub isKey : ℕ → Bool
@@ -25,14 +28,6 @@ Segments = List (List ℕ)
 
 abbrev pub keys : Segments → List ℕ
 keys = joined
-
--- A segment is 64 slots: the keys stand first, gaps follow. z is a gap, here 0.
-module _ {A : Type 0} where
-  abbrev pub pad : A → List A → List A
-  pad z = padded 64 z
-
-  unfoldable pub render : A → List (List A) → List A
-  render z ss = joined (map (pad z) ss)
 
 -- The segments that slots show: of each 64 slots, the keys.
 unfoldable pub segmentsOf : List ℕ → Segments

@@ -1,14 +1,14 @@
 -- What it is for slots to show segments, as the promises of searches and counts say it.
-use Prim.Native.Nat.{ℕ, _≤_}
+use Prim.Native.Nat.{ℕ, _/_, _≤_}
 use mathlib.Core.Path.{_≡_}
-use mathlib.Core.List.{List, [], map}
+use mathlib.Core.List.{List, [], _++_, map}
 use lib.Dec.{T}
 use lib.ListN.{length, take, drop, getD}
 use Rattle.lists.specs.Choice.{if_then_else_}
 use Rattle.lists.specs.Lists.{All, total, splice}
 use Rattle.slots.specs.declared.Reading.{Reading}
 use Rattle.slots.specs.declared.Place.{Place}
-use Rattle.slots.specs.Segments.{Segments, keys, live, render}
+use Rattle.slots.specs.Segments.{Segments, keys, live, render, segmentsOf}
 use Rattle.slots.specs.Keys.{Listed, member, below, predecessor, segmentOf}
 use Rattle.slots.specs.Orders.{orderOf, isKept}
 
@@ -39,3 +39,8 @@ pub record Reads (slots : List ℕ) (r : Reading) : Type 0 where
   pub order : r .order ≡ orderOf slots
   pub few : r .keys ≤ length slots
   pub keys : T (isKept (orderOf slots)) → r .keys ≡ length (live slots)
+
+-- Where the order is kept, the number of keys of each segment is in its place; the other places are as they were.
+pub record Tallied (slots counts counts′ : List ℕ) : Type 0 where
+  pub long : length counts′ ≡ length counts
+  pub places : T (isKept (orderOf slots)) → counts′ ≡ map length (segmentsOf slots) ++ drop (length slots / 64) counts

@@ -1,14 +1,16 @@
 -- What the loops under a search and a reading find, in any slots.
 use Prim.Native.Nat.{ℕ, _+_, _-_, _*_, _≤_, _<_}
 use mathlib.Core.Path.{_≡_}
+use mathlib.Core.Bool.{not, _||_}
 use mathlib.Core.Logic.{_≢_}
 use mathlib.Core.List.{List}
-use lib.Dec.{leb, eqb}
-use lib.ListN.{length}
+use lib.Dec.{T, leb, eqb}
+use lib.ListN.{length, take}
 use Rattle.lists.specs.Choice.{if_then_else_}
 use Rattle.slots.specs.declared.Order.{Order}
 use Rattle.slots.specs.declared.Order.the-variants.{NotRising, AfterGap}
-use Rattle.slots.specs.Orders.{slotAt}
+use Rattle.slots.specs.Segments.{live}
+use Rattle.slots.specs.Orders.{slotAt, notRising, afterGap}
 
 -- Of the segments from a to mid, r is the last that begins with a key, or a.
 pub record Filled (slots : List ℕ) (a mid r : ℕ) : Type 0 where
@@ -41,6 +43,13 @@ pub record Stands (slots : List ℕ) (s y : ℕ) : Type 0 where
   pub to : at < 64 * s + 64
   pub inside : at < length slots
   pub there : slotAt slots at ≡ y
+
+-- What is known of the slots below j: none breaks the order, top is the largest, and keys of them hold keys.
+pub record Sound (slots : List ℕ) (j top keys : ℕ) : Type 0 where
+  pub faultless : (k : ℕ) → k < j → T (not (notRising slots k || afterGap slots k))
+  pub most : (k : ℕ) → k < j → slotAt slots k ≤ top
+  pub there : top ≢ 0 → (k : ℕ) × (k < j) × (slotAt slots k ≡ top)
+  pub many : keys ≡ length (live (take j slots))
 
 -- How the key x breaks the order at slot j, where top is the largest key before it.
 abbrev pub faultOf : ℕ → ℕ → ℕ → Order

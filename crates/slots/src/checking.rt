@@ -1,12 +1,12 @@
 // Reading any slots: the height of their number, and the first slot that breaks the order.
 ghost use mathlib.Core.Path.{_≡_};
-ghost use Prim.Native.Nat.{ℕ, _+_, _*_, _≤_, _<_, min};
+ghost use Prim.Native.Nat.{ℕ, _+_, _*_, _/_, _≤_, _<_};
 ghost use lib.Dec.{T};
 ghost use lib.ListN.{length, getD};
 ghost use Rattle.slots.specs.Orders.{isKept};
 ghost use Rattle.slots.specs.Segments.{heightOf};
-ghost use Rattle.slots.specs.Shown.{Reads};
-ghost use Rattle.slots.specs.Stretches.{Rises, AllGaps, before, faultOf};
+ghost use Rattle.slots.specs.Shown.{Reads, Tallied};
+ghost use Rattle.slots.specs.Stretches.{Rises, AllGaps, Sound, before, faultOf};
 use crate::Order;
 use crate::Reading;
 
@@ -53,63 +53,75 @@ fn rising_rest(list: &[u64], a: usize, e: usize, last: u64) -> usize
     i
 }
 
-// Each of the four slots from `a` on is above the slot before it, and the first above `last`.
-fn four_rise(list: &[u64], a: usize, last: u64) -> bool
+// Where the four slots from `a` on stop rising above `last`; `a` + 4 where they do not.
+fn four_rise(list: &[u64], a: usize, last: u64) -> usize
     requires { ⌜ a + 4 ≤ length (now list) ⌝ }
-    ensures { λ r. ⌜ (T r → Rises (now (list .entry)) a (a + 4) last (a + 4)) ⌝ }
+    ensures { λ r. ⌜ Rises (now (list .entry)) a (a + 4) last r ⌝ }
 {
-    if list[a] <= last {
-        return false;
+    let p = list[a];
+    if p <= last {
+        return a;
     }
-    if list[a + 1] <= list[a] {
-        return false;
+    let q = list[a + 1];
+    if q <= p {
+        return a + 1;
     }
-    if list[a + 2] <= list[a + 1] {
-        return false;
+    let r = list[a + 2];
+    if r <= q {
+        return a + 2;
     }
-    list[a + 2] < list[a + 3]
+    if list[a + 3] <= r {
+        return a + 3;
+    }
+    a + 4
 }
 
-// The first slot from `a` up to `e` that is not above the slot before it, or above `last` at `a`; `e` where there is none.
-// Four at a time as far as they rise: about half the instructions of one at a time.
-fn rising_end(list: &[u64], a: usize, e: usize, last: u64) -> usize
-    requires { ⌜ (a ≤ e) × (e ≤ length (now list)) ⌝ }
-    ensures { λ r. ⌜ Rises (now (list .entry)) a e last r ⌝ }
+// The same of eight.
+fn eight_rise(list: &[u64], a: usize, last: u64) -> usize
+    requires { ⌜ a + 8 ≤ length (now list) ⌝ }
+    ensures { λ r. ⌜ Rises (now (list .entry)) a (a + 8) last r ⌝ }
 {
+    let r = four_rise(list, a, last);
+    if r < a + 4 {
+        return r;
+    }
+    four_rise(list, a + 4, list[a + 3])
+}
+
+// Where the 64 slots from `a` on stop rising above `last`; `a` + 64 where they do not. By eights.
+fn rising_whole(list: &[u64], a: usize, last: u64) -> usize
+    requires { ⌜ a + 64 ≤ length (now list) ⌝ }
+    ensures { λ r. ⌜ Rises (now (list .entry)) a (a + 64) last r ⌝ }
+{
+    let e = a + 64;
     let mut top = last;
     let mut i = a;
-    while 4 <= e - i {
-        if !four_rise(list, i, top) {
-            return rising_rest(list, i, e, top);
-        }
-        top = list[i + 3];
-        i += 4;
-    }
-    rising_rest(list, i, e, top)
-}
-
-// No key from slot `a` up to `e`. Without a way out of the loop, so that it is compiled to read several slots at a time.
-fn all_gaps(list: &[u64], a: usize, e: usize) -> bool
-    requires { ⌜ (a ≤ e) × (e ≤ length (now list)) ⌝ }
-    ensures { λ r. ⌜ (T r → AllGaps (now (list .entry)) a e e) ⌝ }
-{
-    let mut seen = 0;
-    let mut i = a;
     while i < e {
-        seen = seen | list[i];
-        i += 1;
+        let r = eight_rise(list, i, top);
+        if r < i + 8 {
+            return r;
+        }
+        top = list[i + 7];
+        i += 8;
     }
-    seen == 0
+    i
 }
 
-// The first slot from `a` up to `e` that is no gap; `e` where there is none.
-fn gaps_end(list: &[u64], a: usize, e: usize) -> usize
+// The eight slots from `i` on are gaps.
+fn eight_gaps(list: &[u64], i: usize) -> bool
+    requires { ⌜ i + 8 ≤ length (now list) ⌝ }
+    ensures { λ r. ⌜ (T r → AllGaps (now (list .entry)) i (i + 8) (i + 8)) ⌝ }
+{
+    let x = list[i] | list[i + 1] | list[i + 2] | list[i + 3];
+    let y = list[i + 4] | list[i + 5] | list[i + 6] | list[i + 7];
+    (x | y) == 0
+}
+
+// The first slot from `a` up to `e` that is no gap; `e` where there is none: one at a time.
+fn gaps_rest(list: &[u64], a: usize, e: usize) -> usize
     requires { ⌜ (a ≤ e) × (e ≤ length (now list)) ⌝ }
     ensures { λ r. ⌜ AllGaps (now (list .entry)) a e r ⌝ }
 {
-    if all_gaps(list, a, e) {
-        return e;
-    }
     let mut i = a;
     while i < e {
         if list[i] != 0 {
@@ -120,15 +132,33 @@ fn gaps_end(list: &[u64], a: usize, e: usize) -> usize
     i
 }
 
-// Where the segment that begins at slot `a` ends, of `n` slots: the last may be short.
-fn segment_end(a: usize, n: usize) -> usize
-    requires { ⌜ a < n ⌝ }
-    ensures { λ r. ⌜ r ≡ min (a + 64) n ⌝ }
+// No key from slot `a` up to `e`, which is eight slots on or more: by eights from the end; the first eight may overlap those after.
+fn all_gaps(list: &[u64], a: usize, e: usize) -> bool
+    requires { ⌜ (a + 8 ≤ e) × (e ≤ length (now list)) ⌝ }
+    ensures { λ r. ⌜ (T r → AllGaps (now (list .entry)) a e e) ⌝ }
 {
-    if n - a < 64 {
-        return n;
+    let stop = a + 8;
+    let mut j = e;
+    while stop < j {
+        j -= 8;
+        if !eight_gaps(list, j) {
+            return false;
+        }
     }
-    a + 64
+    eight_gaps(list, a)
+}
+
+// The first slot from `a` up to `e` that is no gap; `e` where there is none. The one that is no gap is looked for where there is one.
+fn gaps_end(list: &[u64], a: usize, e: usize) -> usize
+    requires { ⌜ (a ≤ e) × (e ≤ length (now list)) ⌝ }
+    ensures { λ r. ⌜ AllGaps (now (list .entry)) a e r ⌝ }
+{
+    if a + 8 <= e {
+        if all_gaps(list, a, e) {
+            return e;
+        }
+    }
+    gaps_rest(list, a, e)
 }
 
 // The slot before slot `i`, or `last` at `a`.
@@ -152,31 +182,54 @@ fn fault_of(key: u64, top: u64, at: usize) -> Order
     Order::AfterGap(at)
 }
 
-// The first slot that breaks the order, and the number of keys where none does. Of any slots.
-pub fn read_slots(list: &[u64]) -> Reading
+// What is left of a reading, from slot `a` on, where a segment begins that is not whole: `keys` keys before it, the largest `last`.
+fn read_short(list: &[u64], a: usize, last: u64, keys: usize) -> Reading
+    requires { ⌜ (a ≤ length (now list)) × (length (now list) < a + 64) × (a / 64 * 64 ≡ a) × Sound (now list) a last keys ⌝ }
     ensures { λ r. ⌜ Reads (now (list .entry)) r ⌝ }
+{
+    let n = list.len();
+    let i = rising_rest(list, a, n, last);
+    let j = gaps_rest(list, i, n);
+    if j < n {
+        let key = list[j];
+        let top = slot_before(list, a, i, last);
+        let order = fault_of(key, top, j);
+        return Reading { order, keys: 0 };
+    }
+    Reading {
+        order: Order::Kept,
+        keys: keys + (i - a),
+    }
+}
+
+// The first slot that breaks the order, and the number of keys where none does; where none does, the number of keys of each segment
+// is in its place of `counts`. Of any slots.
+pub fn read_slots(list: &[u64], counts: &mut [usize]) -> Reading
+    requires { ⌜ length (now list) / 64 ≤ length (now counts) ⌝ }
+    ensures order { λ r. ⌜ Reads (now (list .entry)) r ⌝ }
+    ensures counts { λ _. ⌜ Tallied (now (list .entry)) (now (counts .entry)) (now (counts .exit)) ⌝ }
 {
     let n = list.len();
     let mut keys = 0;
     let mut last = 0;
     let mut a = 0;
-    while a < n {
-        let e = segment_end(a, n);
-        let i = rising_end(list, a, e, last);
+    let mut s = 0;
+    while 64 <= n - a {
+        let e = a + 64;
+        let i = rising_whole(list, a, last);
         let j = gaps_end(list, i, e);
         let top = slot_before(list, a, i, last);
         if j < e {
             let order = fault_of(list[j], top, j);
             return Reading { order, keys: 0 };
         }
+        counts[s] = i - a;
         keys += i - a;
         last = top;
         a = e;
+        s += 1;
     }
-    Reading {
-        order: Order::Kept,
-        keys,
-    }
+    read_short(list, a, last, keys)
 }
 
 // No slot breaks the order.

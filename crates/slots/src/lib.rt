@@ -1,8 +1,7 @@
-// The list a classroom lends: movement, counting, search and reading of its slots.
+// The list a classroom lends: counting, search and reading of its slots.
 pub mod checking;
 pub mod counting;
 pub mod finding;
-pub mod movement;
 
 // What a reading of the slots finds: the order is kept, or the first slot that breaks it, and how.
 pub enum Order {

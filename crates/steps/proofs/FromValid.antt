@@ -15,7 +15,7 @@ use Rattle.forecast.proofs.Became.{is-became}
 use Rattle.rules.specs.Shares.{Shares, shares, capacity}
 use Rattle.rules.specs.Checks.{sharesOf, checkList}
 use Rattle.rules.specs.Calls.{roomOf}
-use Rattle.rules.specs.Demand1.{Roomy}
+use Rattle.forecast.specs.Held.{Roomy}
 use Rattle.rules.proofs.Table.{ends}
 use Rattle.rules.proofs.Good.{Good}
 use Rattle.rules.proofs.Checked.{Passed, passed, list-passes, checked, keys-shown, forecast-shown}

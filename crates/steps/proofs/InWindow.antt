@@ -14,11 +14,11 @@ use Rattle.lists.proofs.Only.{only-length}
 use Rattle.lists.proofs.Fill.{length-without}
 use Rattle.slots.specs.Segments.{isKey, Segments, keys, segmentsOf}
 use Rattle.slots.specs.Keys.{Rising, member, below, put, cut}
-use Rattle.slots.specs.Moves.{opened, closed, Packed}
+use Rattle.moves.specs.Moves.{opened, closed, Packed}
 use Rattle.slots.proofs.Keys.{member→mem}
 use Rattle.slots.proofs.Render.{keys-segments, length-render}
 use Rattle.slots.proofs.Carried.{packed-keys}
-use Rattle.slots.proofs.Gaps.{length-insertAt}
+use Rattle.moves.proofs.Gaps.{length-insertAt}
 use Rattle.slots.proofs.ByPlace.{put-at, cut-at, place-old}
 use Rattle.steps.specs.Sweeps.{Windowed}
 

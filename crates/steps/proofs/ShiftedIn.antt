@@ -11,7 +11,7 @@ use Rattle.lists.specs.Lists.{insertAt}
 use Rattle.slots.specs.declared.Place.{Place}
 use Rattle.slots.specs.Segments.{Segments, keys, segmentsOf, render}
 use Rattle.slots.specs.Keys.{member, above, put, predecessor, segmentOf}
-use Rattle.slots.specs.Moves.{opened}
+use Rattle.moves.specs.Moves.{opened}
 use Rattle.slots.specs.Shown.{Shows}
 use Rattle.slots.proofs.Seats.{seat-free, seat-member}
 use Rattle.slots.proofs.ByPlace.{put-at, above-new}

@@ -12,7 +12,7 @@ use Rattle.lists.specs.Lists.{without}
 use Rattle.slots.specs.declared.Place.{Place}
 use Rattle.slots.specs.Segments.{Segments, keys, segmentsOf, render}
 use Rattle.slots.specs.Keys.{above, cut, segmentOf}
-use Rattle.slots.specs.Moves.{closed}
+use Rattle.moves.specs.Moves.{closed}
 use Rattle.slots.specs.Shown.{Shows}
 use Rattle.slots.proofs.Keys.{member→mem, segment-mem}
 use Rattle.slots.proofs.Seats.{seat-live}

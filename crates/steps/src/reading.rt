@@ -15,7 +15,8 @@ pub fn look_over(list: &[u64]) -> Listing
             keys: 0,
         };
     }
-    let reading = slots::checking::read_slots(list);
+    let mut counts = [0; 64];
+    let reading = slots::checking::read_slots(list, &mut counts);
     let order = reading.order;
     if !slots::checking::is_kept(order) {
         return Listing {

@@ -44,7 +44,7 @@ pub fn shift_in(
     let a = 64 * segment;
     let e = a + 64;
     let moves = (held - at + 1) as u64;
-    slots::movement::open_gap(&mut list[a..e], held, at, key);
+    moves::open_gap(&mut list[a..e], held, at, key);
     Step {
         effect: Effect::Done,
         forecast: noted,
@@ -76,7 +76,7 @@ pub fn shift_out(
     let a = 64 * segment;
     let e = a + 64;
     let moves = (held - at - 1) as u64;
-    slots::movement::close_gap(&mut list[a..e], held, at);
+    moves::close_gap(&mut list[a..e], held, at);
     Step {
         effect: Effect::Done,
         forecast: dropped,

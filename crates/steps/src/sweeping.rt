@@ -32,7 +32,7 @@ fn deal_out(window: &mut [u64], m: usize, forecast: Forecast, front: usize, h: u
         level,
         &mut counts[..n],
     );
-    slots::movement::spread(window, &counts[..n], m);
+    moves::spread(window, &counts[..n], m);
 }
 
 // A window swept with `key` put in. `counts` are those of its segments before.
@@ -49,9 +49,9 @@ pub fn sweep_in(
     requires { ⌜ T (not (member key (keys (segmentsOf (now window))))) ⌝ }
     ensures { λ _. ⌜ now (window .exit) ≡ shared h level forecast front (put key (keys (segmentsOf (now (window .entry))))) ⌝ }
 {
-    let m = slots::movement::pack(window, counts);
+    let m = moves::pack(window, counts);
     let p = slots::finding::position(window, m, key);
-    slots::movement::open_gap(window, m, p, key);
+    moves::open_gap(window, m, p, key);
     deal_out(window, m + 1, forecast, front, h, level);
 }
 
@@ -69,9 +69,9 @@ pub fn sweep_out(
     requires { ⌜ T (member key (keys (segmentsOf (now window)))) ⌝ }
     ensures { λ _. ⌜ now (window .exit) ≡ shared h level forecast front (cut key (keys (segmentsOf (now (window .entry))))) ⌝ }
 {
-    let m = slots::movement::pack(window, counts);
+    let m = moves::pack(window, counts);
     let p = slots::finding::position(window, m, key);
-    slots::movement::close_gap(window, m, p);
+    moves::close_gap(window, m, p);
     deal_out(window, m - 1, forecast, front, h, level);
 }
 

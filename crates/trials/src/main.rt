@@ -2,7 +2,6 @@
 // A command is 25 bytes: what is asked, and three numbers, high byte first.
 ghost use Prim.Native.Nat.{_≤_, _<_, _+_};
 ghost use lib.ListN.{length};
-use forecast::Cell;
 use forecast::Forecast;
 use libc::STDOUT_FILENO;
 use list::telling;
@@ -69,13 +68,20 @@ fn show_cells(forecast: Forecast) {
     number(forecast.used as u64);
     let mut i = 0;
     while i < 12 {
-        let cell = forecast.cells[i];
-        number(cell.marker);
-        number(cell.segment as u64);
-        number(cell.count as u64);
+        number(forecast.markers[i]);
+        number(wide(forecast.segments[i]));
+        number(wide(forecast.counts[i]));
         i += 1;
     }
     text(b"\n");
+}
+
+// A number as a byte: 255 for all that is over it.
+fn narrow(x: u64) -> u8 {
+    if x <= 255 {
+        return x as u8;
+    }
+    255
 }
 
 // A byte as a number of 64 bits.
@@ -221,12 +227,9 @@ fn ask_cell(room: Room, c: Command) -> Room {
     let i = c.x as usize;
     let mut forecast = room.forecast;
     if i < 12 {
-        let cell = Cell {
-            marker: c.y,
-            segment: (c.z / 4294967296) as usize,
-            count: (c.z % 4294967296) as usize,
-        };
-        forecast.cells[i] = cell;
+        forecast.markers[i] = c.y;
+        forecast.segments[i] = narrow(c.z / 4294967296);
+        forecast.counts[i] = narrow(c.z % 4294967296);
     }
     Room {
         len: room.len,

@@ -5,10 +5,10 @@ use Rattle.trials.proofs.show_cells.Statement.{statement}
 use Rattle.trials.proofs.show_cells.Tie as tie
 
 abbrev Inv-loop : tie.InvT-loop
-Inv-loop forecast i₀ t6 i = i ≤ 12
+Inv-loop forecast i₀ t5 i = i ≤ 12
 
 abbrev μ-loop : tie.MeasureT-loop
-μ-loop forecast i₀ t6 i = 12 - i
+μ-loop forecast i₀ t5 i = 12 - i
 
 slice-aggregate-text : tie.Need-slice-aggregate-text Inv-loop μ-loop
 slice-aggregate-text c = search needs
@@ -22,17 +22,29 @@ number-requires c κs = search needs
 loop-holds : tie.Need-loop-holds Inv-loop μ-loop
 loop-holds c = search needs
 
-mul-cell : tie.Need-mul-cell Inv-loop μ-loop
-mul-cell c = search needs
+mul-number : tie.Need-mul-number Inv-loop μ-loop
+mul-number c = search needs
 
-element-copy-out-cell : tie.Need-element-copy-out-cell Inv-loop μ-loop
-element-copy-out-cell c = search needs
+element-copy-out-number : tie.Need-element-copy-out-number Inv-loop μ-loop
+element-copy-out-number c = search needs
 
 number-requires-2 : tie.Need-number-requires-2 Inv-loop μ-loop
 number-requires-2 c κs = search needs
 
+element-copy-out-wide : tie.Need-element-copy-out-wide Inv-loop μ-loop
+element-copy-out-wide c = search needs
+
+wide-requires : tie.Need-wide-requires Inv-loop μ-loop
+wide-requires c κs = search needs
+
 number-requires-3 : tie.Need-number-requires-3 Inv-loop μ-loop
 number-requires-3 c κs = search needs
+
+element-copy-out-wide-2 : tie.Need-element-copy-out-wide-2 Inv-loop μ-loop
+element-copy-out-wide-2 c = search needs
+
+wide-requires-2 : tie.Need-wide-requires-2 Inv-loop μ-loop
+wide-requires-2 c κs = search needs
 
 number-requires-4 : tie.Need-number-requires-4 Inv-loop μ-loop
 number-requires-4 c κs = search needs
@@ -65,10 +77,14 @@ show-cells-spec =
     text-requires
     number-requires
     loop-holds
-    mul-cell
-    element-copy-out-cell
+    mul-number
+    element-copy-out-number
     number-requires-2
+    element-copy-out-wide
+    wide-requires
     number-requires-3
+    element-copy-out-wide-2
+    wide-requires-2
     number-requires-4
     add-i
     loop-less

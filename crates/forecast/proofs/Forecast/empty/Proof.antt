@@ -9,7 +9,7 @@ use Rattle.forecast.proofs.Forecast.empty.Tie as tie
 
 returns : tie.Need-returns
 unfolding padded
-returns c = became [] _ (omega arith) refl refl
+returns c = became [] _ (omega arith) refl refl refl refl
 
 pub empty-spec : {M : Type 1} → statement M
 empty-spec = tie.close (tie.spec returns)

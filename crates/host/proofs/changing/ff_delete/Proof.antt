@@ -3,6 +3,8 @@ use Rattle.lists.proofs.Tests.{or-left, or-right}
 use Rattle.host.specs.Calls.{notForecast, short}
 use Rattle.host.proofs.ChangeGiven.{delete-misfit, delete-given}
 use Rattle.host.proofs.Sized.{not-forecast, is-short}
+use mathlib.Core.Path.{refl}
+use mathlib.Core.Logic.{inl, inr}
 use borrow.Author.Needs.{needs}
 use Rattle.host.proofs.changing.ff_delete.Statement.{statement}
 use Rattle.host.proofs.changing.ff_delete.Tie as tie
@@ -32,9 +34,6 @@ delete-moves-requires c κs = search needs
 delete-sparse-requires : tie.Need-delete-sparse-requires
 delete-sparse-requires c κs = search needs
 
-write-forecast-requires : tie.Need-write-forecast-requires
-write-forecast-requires c κs = search needs
-
 slice-write-reply : tie.Need-slice-write-reply
 slice-write-reply c = search needs
 
@@ -52,10 +51,33 @@ same-length-3 c = search needs
 
 returns-3 : tie.Need-returns-3
 returns-3 c =
-    let a = c .before .before .before .before .before .before .before .before .before .before .before .before .before .before .before .before .before .before .before .args in
-    let read = c .before .before .before .before .before .before .before .before .before .before .before .before .read-forecast in
-    let done = c .before .before .before .before .before .before .before .before .before .before .delete in
-    delete-given (a .list .now) (a .forecast .now) (a .key) (a .reply .now) (read .result) (done .result) _ _ _ _ _ (c .before .before .before .before .before .before .before .before .before .before .before .before .before .before .before .if1 .left) (c .before .before .before .before .before .before .before .before .before .before .before .before .before .before .if2 .left) (read .ensures) (done .ensures) (c .before .before .write-forecast .ensures) (c .before .before .before .before .before .before .before .delete-number .ensures) (c .before .before .before .before .before .before .delete-moves .ensures) (c .before .before .before .before .before .delete-sparse .ensures)
+    let a = c .before .before .before .before .before .before .before .before .before .before .before .before .before .before .before .args in
+    let read = c .before .before .before .before .before .before .before .before .read-forecast in
+    let done = c .before .before .before .before .before .before .delete in
+    delete-given (a .list .now) (a .forecast .now) (a .key) (a .reply .now) (read .result) (done .result) _ _ _ _ _ (c .before .before .before .before .before .before .before .before .before .before .before .if1 .left) (c .before .before .before .before .before .before .before .before .before .before .if2 .left) (read .ensures) (done .ensures)
+    (inr (c .if3 .taken, refl))
+    (c .before .before .before .delete-number .ensures) (c .before .before .delete-moves .ensures) (c .before .delete-sparse .ensures)
+
+write-forecast-requires : tie.Need-write-forecast-requires
+write-forecast-requires c κs = search needs
+
+same-length-4 : tie.Need-same-length-4
+same-length-4 c = search needs
+
+same-length-5 : tie.Need-same-length-5
+same-length-5 c = search needs
+
+same-length-6 : tie.Need-same-length-6
+same-length-6 c = search needs
+
+returns-4 : tie.Need-returns-4
+returns-4 c =
+    let a = c .before .before .before .before .before .before .before .before .before .before .before .before .before .before .before .before .before .before .before .before .args in
+    let read = c .before .before .before .before .before .before .before .before .before .before .before .before .before .read-forecast in
+    let done = c .before .before .before .before .before .before .before .before .before .before .before .delete in
+    delete-given (a .list .now) (a .forecast .now) (a .key) (a .reply .now) (read .result) (done .result) _ _ _ _ _ (c .before .before .before .before .before .before .before .before .before .before .before .before .before .before .before .before .if1 .left) (c .before .before .before .before .before .before .before .before .before .before .before .before .before .before .before .if2 .left) (read .ensures) (done .ensures)
+    (inl (c .before .before .before .before .before .if3 .left, c .before .before .write-forecast .ensures))
+    (c .before .before .before .before .before .before .before .before .delete-number .ensures) (c .before .before .before .before .before .before .before .delete-moves .ensures) (c .before .before .before .before .before .before .delete-sparse .ensures)
 
 pub ff-delete-spec : {M : Type 1} → statement M
 ff-delete-spec =
@@ -68,10 +90,14 @@ ff-delete-spec =
     delete-number-requires
     delete-moves-requires
     delete-sparse-requires
-    write-forecast-requires
     slice-write-reply
     slice-write-reply-2
     same-length
     same-length-2
     same-length-3
-    returns-3)
+    returns-3
+    write-forecast-requires
+    same-length-4
+    same-length-5
+    same-length-6
+    returns-4)

@@ -4,6 +4,9 @@ use Rattle.lists.proofs.Tests.{or-left, or-right}
 use Rattle.host.specs.Calls.{notForecast, notTotals, short}
 use Rattle.host.proofs.RunGiven.{run-misfit, run-given}
 use Rattle.host.proofs.Sized.{not-forecast, not-totals, is-short}
+use mathlib.Core.Path.{refl}
+use mathlib.Core.Logic.{⊎-elim, inl, inr}
+use native.Mathlib.Omega.{arith}
 use borrow.Author.Needs.{needs}
 use Rattle.host.proofs.running.ff_run.Statement.{statement}
 use Rattle.host.proofs.running.ff_run.Tie as tie
@@ -32,9 +35,6 @@ read-totals-requires c κs = search needs
 run-with-requires : tie.Need-run-with-requires
 run-with-requires c κs = search needs
 
-write-forecast-requires : tie.Need-write-forecast-requires
-write-forecast-requires c κs = search needs
-
 write-totals-requires : tie.Need-write-totals-requires
 write-totals-requires c κs = search needs
 
@@ -55,11 +55,38 @@ same-length-4 c = search needs
 
 returns-4 : tie.Need-returns-4
 returns-4 c =
-    let a = c .before .before .before .before .before .before .before .before .before .before .before .before .before .before .before .before .before .before .before .before .before .before .before .before .before .before .before .before .before .before .args in
-    let forecast = c .before .before .before .before .before .before .before .before .before .before .before .before .before .before .before .before .before .before .before .before .read-forecast in
-    let totals = c .before .before .before .before .before .before .before .before .before .before .before .before .before .before .before .before .before .before .read-totals in
-    let ran = c .before .before .before .before .before .before .before .before .before .before .before .before .before .before .before .before .run-with in
-    run-given (a .list .now) (a .forecast .now) (a .requests .now) (a .allowance) (a .totals .now) (a .reply .now) (forecast .result) (totals .result) (ran .result) _ _ _ _ (c .before .before .before .before .before .before .before .before .before .before .before .before .before .before .before .before .before .before .before .before .before .before .before .before .if1 .left) (c .before .before .before .before .before .before .before .before .before .before .before .before .before .before .before .before .before .before .before .before .before .before .before .if2 .left) (c .before .before .before .before .before .before .before .before .before .before .before .before .before .before .before .before .before .before .before .before .before .before .if3 .left) (forecast .ensures) (totals .ensures) (ran .ensures) (c .before .before .before .before .before .before .before .before .before .before .write-forecast .ensures) (c .before .before .before .before .before .before .write-totals .ensures) (c .before .before .write-reply .ensures)
+    let a = c .before .before .before .before .before .before .before .before .before .before .before .before .before .before .before .before .before .before .before .before .before .before .before .before .before .before .before .args in
+    let forecast = c .before .before .before .before .before .before .before .before .before .before .before .before .before .before .before .before .before .read-forecast in
+    let totals = c .before .before .before .before .before .before .before .before .before .before .before .before .before .before .before .read-totals in
+    let ran = c .before .before .before .before .before .before .before .before .before .before .before .before .before .run-with in
+    run-given (a .list .now) (a .forecast .now) (a .requests .now) (a .allowance) (a .totals .now) (a .reply .now) (forecast .result) (totals .result) (ran .result) _ _ _ _ (c .before .before .before .before .before .before .before .before .before .before .before .before .before .before .before .before .before .before .before .before .before .if1 .left) (c .before .before .before .before .before .before .before .before .before .before .before .before .before .before .before .before .before .before .before .before .if2 .left) (c .before .before .before .before .before .before .before .before .before .before .before .before .before .before .before .before .before .before .before .if3 .left) (forecast .ensures) (totals .ensures) (ran .ensures)
+    (inr ((omega (arith, c .before .if4 .taken), omega (arith, c .if5 .taken)), refl))
+    (c .before .before .before .before .before .before .before .before .write-totals .ensures) (c .before .before .before .before .write-reply .ensures)
+
+write-forecast-requires : tie.Need-write-forecast-requires
+write-forecast-requires c κs = search needs
+
+same-length-5 : tie.Need-same-length-5
+same-length-5 c = search needs
+
+same-length-6 : tie.Need-same-length-6
+same-length-6 c = search needs
+
+same-length-7 : tie.Need-same-length-7
+same-length-7 c = search needs
+
+same-length-8 : tie.Need-same-length-8
+same-length-8 c = search needs
+
+returns-5 : tie.Need-returns-5
+returns-5 c =
+    let a = c .before .before .before .before .before .before .before .before .before .before .before .before .before .before .before .before .before .before .before .before .before .before .before .before .before .before .before .before .before .before .before .args in
+    let forecast = c .before .before .before .before .before .before .before .before .before .before .before .before .before .before .before .before .before .before .before .before .before .read-forecast in
+    let totals = c .before .before .before .before .before .before .before .before .before .before .before .before .before .before .before .before .before .before .before .read-totals in
+    let ran = c .before .before .before .before .before .before .before .before .before .before .before .before .before .before .before .before .before .run-with in
+    run-given (a .list .now) (a .forecast .now) (a .requests .now) (a .allowance) (a .totals .now) (a .reply .now) (forecast .result) (totals .result) (ran .result) _ _ _ _ (c .before .before .before .before .before .before .before .before .before .before .before .before .before .before .before .before .before .before .before .before .before .before .before .before .before .if1 .left) (c .before .before .before .before .before .before .before .before .before .before .before .before .before .before .before .before .before .before .before .before .before .before .before .before .if2 .left) (c .before .before .before .before .before .before .before .before .before .before .before .before .before .before .before .before .before .before .before .before .before .before .before .if3 .left) (forecast .ensures) (totals .ensures) (ran .ensures)
+    (inl (⊎-elim (λ w. inr (omega (arith, w .1 .left))) (λ w. inl (omega (arith, w .left))) (c .before .before .before .before .before .if4 .came), c .before .before .write-forecast .ensures))
+    (c .before .before .before .before .before .before .before .before .before .before .before .before .write-totals .ensures) (c .before .before .before .before .before .before .before .before .write-reply .ensures)
 
 pub ff-run-spec : {M : Type 1} → statement M
 ff-run-spec =
@@ -71,11 +98,16 @@ ff-run-spec =
     read-forecast-requires
     read-totals-requires
     run-with-requires
-    write-forecast-requires
     write-totals-requires
     write-reply-requires
     same-length
     same-length-2
     same-length-3
     same-length-4
-    returns-4)
+    returns-4
+    write-forecast-requires
+    same-length-5
+    same-length-6
+    same-length-7
+    same-length-8
+    returns-5)

@@ -8,7 +8,7 @@ use native.Mathlib.Omega.{arith}
 use lib.ListN.{length, replicate}
 use lib.Seq.{drop-length}
 use Rattle.slots.specs.Segments.{heightOf}
-use Rattle.slots.specs.Moves.{cleared}
+use Rattle.moves.specs.Moves.{cleared}
 use Rattle.forecast.proofs.Became.{became-is}
 use Rattle.rules.specs.Calls.{Made}
 use Rattle.list.proofs.Replies.{make-refused, make-done}

@@ -4,7 +4,7 @@ use mathlib.Core.Path.{_≡_, refl, sym, ap, _∙_, subst}
 use Prim.Native.Nat.{_-_}
 use native.Mathlib.Omega.{arith}
 use lib.ListN.{length}
-use Rattle.forecast.proofs.Stepping.{array-long}
+use Rattle.forecast.specs.Held.{Roomy}
 use Rattle.run.specs.declared.Tally.{Tally}
 use Rattle.run.proofs.Going.{Going, going-start, T-false, ends-whole, ends-bad, ends-over, small, goes-on}
 use borrow.Author.Needs.{needs}
@@ -17,8 +17,8 @@ Inv-loop list₀ h many requests allowance forecast₀ keys₀ tally₀ list for
 abbrev μ-loop : tie.MeasureT-loop
 μ-loop list₀ h many requests allowance forecast₀ keys₀ tally₀ list forecast keys tally = length requests - tally .place
 
-roomy : (s : tie.Start Inv-loop μ-loop) → length (s .args .start .cells) ≡ 12
-roomy s = search (needs, array-long)
+roomy : (s : tie.Start Inv-loop μ-loop) → Roomy (s .args .start)
+roomy s = record { markers = search needs; segments = search needs; counts = search needs }
 
 loop-holds : tie.Need-loop-holds Inv-loop μ-loop
 loop-holds c =

@@ -7,7 +7,7 @@ use lib.Seq.{take-all}
 use Rattle.slots.specs.Keys.{Rising}
 use Rattle.forecast.specs.Cells.{usedCells}
 use Rattle.forecast.specs.Held.{Fitting}
-use Rattle.forecast.proofs.Stepping.{cells-used}
+use Rattle.forecast.proofs.Stepping.{cells-used, tidy-roomy, roomy-cell}
 use Rattle.sharing.proofs.CellMarks.{Marking, marking-none, marking-next}
 use Rattle.sharing.proofs.marking.mark.Statement.{statement}
 use Rattle.sharing.proofs.marking.mark.Tie as tie
@@ -22,11 +22,23 @@ abbrev μ-loop : tie.MeasureT-loop
 loop-holds : tie.Need-loop-holds Inv-loop μ-loop
 loop-holds c = (omega arith, omega arith, (omega arith, omega arith), λ r f. marking-none _)
 
-mul-cell : tie.Need-mul-cell Inv-loop μ-loop
-mul-cell c = omega arith
+mul-t12 : tie.Need-mul-t12 Inv-loop μ-loop
+mul-t12 c = omega arith
 
-element-copy-out-cell : tie.Need-element-copy-out-cell Inv-loop μ-loop
-element-copy-out-cell c = omega arith
+element-copy-out-t15 : tie.Need-element-copy-out-t15 Inv-loop μ-loop
+element-copy-out-t15 c = omega arith
+
+element-copy-out-wide : tie.Need-element-copy-out-wide Inv-loop μ-loop
+element-copy-out-wide c = omega arith
+
+wide-requires : tie.Need-wide-requires Inv-loop μ-loop
+wide-requires c κs = tt
+
+element-copy-out-wide-2 : tie.Need-element-copy-out-wide-2 Inv-loop μ-loop
+element-copy-out-wide-2 c = omega arith
+
+wide-requires-2 : tie.Need-wide-requires-2 Inv-loop μ-loop
+wide-requires-2 c κs = tt
 
 mark-cell-requires : tie.Need-mark-cell-requires Inv-loop μ-loop
 mark-cell-requires c κs = omega arith
@@ -39,14 +51,20 @@ loop-less c = omega arith
 
 loop-again : tie.Need-loop-again Inv-loop μ-loop
 loop-again c =
-    let L = c .before .before .before .before .before .before .before .before .before .loop in
-    let s = c .before .before .before .before .before .before .before .before .before .before .before .before .before in
-    let a = s .args in (
+    let d = c .before .before .before .before in
+    let w = d .before .before .before in
+    let m = w .before .before .before .before .before .before in
+    let L = m .loop in
+    let s = m .before .before .before .before in
+    let a = s .args in
+    let t = s .pre .1 .1 in
+    let is = roomy-cell (a .t3) (tidy-roomy (a .t3) t) (L .i) (let u = t .room in omega arith) _ _ (w .before .before .wide .ensures) (w .wide2 .ensures) .cell in (
       omega arith,
       omega arith,
       (omega arith, omega arith),
-      λ r f. marking-next (a .t3) (s .pre .1 .1) f (L .i) (omega arith) (take (a .m) (a .window .now)) (take (L .n) (L .at)) (take (L .n) (L .weights)) _ _ r
-          (omega (arith, length-take (c .before .before .before .before .mark-cell .result) (c .before .before .before .before .mark-cell .last .1 .1 .1 .1 .0))) (L .inv .3 r f) (c .before .before .before .before .mark-cell .ensures .1 r),
+      λ r f. marking-next (a .t3) t f (L .i) (omega arith) (take (a .m) (a .window .now)) (take (L .n) (L .at)) (take (L .n) (L .weights)) _ _ r
+          (omega (arith, length-take (d .mark-cell .result) (d .mark-cell .last .1 .1 .1 .1 .0))) (L .inv .3 r f)
+          _ is (d .mark-cell .ensures .1 r),
     )
 
 same-length : tie.Need-same-length Inv-loop μ-loop
@@ -69,8 +87,12 @@ mark-spec =
     Inv-loop
     μ-loop
     loop-holds
-    mul-cell
-    element-copy-out-cell
+    mul-t12
+    element-copy-out-t15
+    element-copy-out-wide
+    wide-requires
+    element-copy-out-wide-2
+    wide-requires-2
     mark-cell-requires
     add-i
     loop-less

@@ -1,107 +1,98 @@
 -- `slots::checking::four_rise` meets its contract: four tests, each that a slot is above the one before it.
-use lib.Dec.{ltb→lt}
-use Rattle.slots.proofs.Stretched.{four-up}
+use Prim.Native.Nat.{_+_}
+use mathlib.Core.Path.{refl}
+use native.Mathlib.Omega.{arith}
+use Rattle.slots.proofs.Stretched.{up-one, up-two, up-three, up-four, up-all, up-stop, up-never}
 use borrow.Author.Needs.{needs}
 use Rattle.slots.proofs.checking.four_rise.Statement.{statement}
 use Rattle.slots.proofs.checking.four_rise.Tie as tie
 
-mul-if1 : tie.Need-mul-if1
-mul-if1 c = search needs
+mul-p : tie.Need-mul-p
+mul-p c = search needs
 
-shared-slice-read-if1 : tie.Need-shared-slice-read-if1
-shared-slice-read-if1 c = search needs
+shared-slice-read-p : tie.Need-shared-slice-read-p
+shared-slice-read-p c = search needs
 
 returns : tie.Need-returns
-returns c = search needs
+returns c =
+    let s = c .before .before .args in up-never (s .list .now) (s .a) (s .last) (s .a + 4) (omega arith) (c .if1 .taken)
 
-add-if2 : tie.Need-add-if2
-add-if2 c = search needs
+add-q : tie.Need-add-q
+add-q c = search needs
 
-mul-if2 : tie.Need-mul-if2
-mul-if2 c = search needs
+mul-q : tie.Need-mul-q
+mul-q c = search needs
 
-shared-slice-read-if2 : tie.Need-shared-slice-read-if2
-shared-slice-read-if2 c = search needs
-
-mul-if2-2 : tie.Need-mul-if2-2
-mul-if2-2 c = search needs
-
-shared-slice-read-if2-2 : tie.Need-shared-slice-read-if2-2
-shared-slice-read-if2-2 c = search needs
-
-returns-2 : tie.Need-returns-2
-returns-2 c = search needs
-
-add-if3 : tie.Need-add-if3
-add-if3 c = search needs
-
-mul-if3 : tie.Need-mul-if3
-mul-if3 c = search needs
-
-shared-slice-read-if3 : tie.Need-shared-slice-read-if3
-shared-slice-read-if3 c = search needs
-
-add-if3-2 : tie.Need-add-if3-2
-add-if3-2 c = search needs
-
-mul-if3-2 : tie.Need-mul-if3-2
-mul-if3-2 c = search needs
-
-shared-slice-read-if3-2 : tie.Need-shared-slice-read-if3-2
-shared-slice-read-if3-2 c = search needs
-
-returns-3 : tie.Need-returns-3
-returns-3 c = search needs
+shared-slice-read-q : tie.Need-shared-slice-read-q
+shared-slice-read-q c = search needs
 
 add-result : tie.Need-add-result
 add-result c = search needs
 
-mul-result : tie.Need-mul-result
-mul-result c = search needs
+returns-2 : tie.Need-returns-2
+returns-2 c =
+    let s = c .before .before .before .before .args in up-stop (s .list .now) (s .a) (s .last) (s .a + 4) (s .a) (s .a + 1) refl (omega arith) (omega arith) (up-one (s .list .now) (s .a) (s .last) (c .before .before .if1 .left)) (c .if2 .taken)
 
-shared-slice-read-result : tie.Need-shared-slice-read-result
-shared-slice-read-result c = search needs
+add-r : tie.Need-add-r
+add-r c = search needs
+
+mul-r : tie.Need-mul-r
+mul-r c = search needs
+
+shared-slice-read-r : tie.Need-shared-slice-read-r
+shared-slice-read-r c = search needs
 
 add-result-2 : tie.Need-add-result-2
 add-result-2 c = search needs
 
-mul-result-2 : tie.Need-mul-result-2
-mul-result-2 c = search needs
+returns-3 : tie.Need-returns-3
+returns-3 c =
+    let s = c .before .before .before .before .before .before .args in up-stop (s .list .now) (s .a) (s .last) (s .a + 4) (s .a + 1) (s .a + 2) (omega arith) (omega arith) (omega arith) (up-two (s .list .now) (s .a) (s .last) (c .before .before .before .before .if1 .left) (c .before .before .if2 .left)) (c .if3 .taken)
 
-shared-slice-read-result-2 : tie.Need-shared-slice-read-result-2
-shared-slice-read-result-2 c = search needs
+add-if4 : tie.Need-add-if4
+add-if4 c = search needs
+
+mul-if4 : tie.Need-mul-if4
+mul-if4 c = search needs
+
+shared-slice-read-if4 : tie.Need-shared-slice-read-if4
+shared-slice-read-if4 c = search needs
+
+add-result-3 : tie.Need-add-result-3
+add-result-3 c = search needs
 
 returns-4 : tie.Need-returns-4
-returns-4 c t =
-    let two = c .before .before .before .before .before in
-    let one = two .before .before .before in
-    let s = one .before .before .args in
-    four-up (s .list .now) (s .a) (s .last) (one .if1 .left) (two .if2 .left) (c .before .before .if3 .left) (ltb→lt _ _ t)
+returns-4 c =
+    let s = c .before .before .before .before .before .before .before .before .args in up-stop (s .list .now) (s .a) (s .last) (s .a + 4) (s .a + 2) (s .a + 3) (omega arith) (omega arith) (omega arith) (up-three (s .list .now) (s .a) (s .last) (c .before .before .before .before .before .before .if1 .left) (c .before .before .before .before .if2 .left) (c .before .before .if3 .left)) (c .if4 .taken)
+
+add-result-4 : tie.Need-add-result-4
+add-result-4 c = search needs
+
+returns-5 : tie.Need-returns-5
+returns-5 c =
+    let s = c .before .before .before .before .before .before .before .before .args in up-all (s .list .now) (s .a) (s .last) (s .a + 4) (omega arith) (up-four (s .list .now) (s .a) (s .last) (c .before .before .before .before .before .before .if1 .left) (c .before .before .before .before .if2 .left) (c .before .before .if3 .left) (c .if4 .left))
 
 pub four-rise-spec : {M : Type 1} → statement M
 four-rise-spec =
     tie.close
     (tie.spec
-    mul-if1
-    shared-slice-read-if1
+    mul-p
+    shared-slice-read-p
     returns
-    add-if2
-    mul-if2
-    shared-slice-read-if2
-    mul-if2-2
-    shared-slice-read-if2-2
-    returns-2
-    add-if3
-    mul-if3
-    shared-slice-read-if3
-    add-if3-2
-    mul-if3-2
-    shared-slice-read-if3-2
-    returns-3
+    add-q
+    mul-q
+    shared-slice-read-q
     add-result
-    mul-result
-    shared-slice-read-result
+    returns-2
+    add-r
+    mul-r
+    shared-slice-read-r
     add-result-2
-    mul-result-2
-    shared-slice-read-result-2
-    returns-4)
+    returns-3
+    add-if4
+    mul-if4
+    shared-slice-read-if4
+    add-result-3
+    returns-4
+    add-result-4
+    returns-5)

@@ -1,65 +1,22 @@
--- `slots::checking::gaps_end` meets its contract: all are gaps, or it looks at each. The loop's invariant: the slots from `a` up to `i` are gaps.
-use mathlib.Core.Path.{_≡_}
-use Prim.Native.Nat.{ℕ, _-_, _≤_, _<_}
-use native.Mathlib.Omega.{arith}
-use borrow.Author.Count.{below-more}
-use Rattle.slots.specs.Orders.{slotAt}
+-- `slots::checking::gaps_end` meets its contract: all are gaps, or it looks at each.
+use borrow.Author.Needs.{needs}
 use Rattle.slots.proofs.checking.gaps_end.Statement.{statement}
 use Rattle.slots.proofs.checking.gaps_end.Tie as tie
 
-abbrev Inv-loop : tie.InvT-loop
-Inv-loop list a e i₀ i = (a ≤ i) × (i ≤ e) × ((k : ℕ) → k < i → a ≤ k → slotAt list k ≡ 0)
+add-if1 : tie.Need-add-if1
+add-if1 c = search needs
 
-abbrev μ-loop : tie.MeasureT-loop
-μ-loop list a e i₀ i = e - i
+all-gaps-requires : tie.Need-all-gaps-requires
+all-gaps-requires c κs = search needs
 
-all-gaps-requires : tie.Need-all-gaps-requires Inv-loop μ-loop
-all-gaps-requires c κs = omega arith
+returns : tie.Need-returns
+returns c = c .before .all-gaps .ensures (rw (c .if2 .taken) tt)
 
-returns : tie.Need-returns Inv-loop μ-loop
-returns c = c .before .all-gaps .ensures (rw (c .if1 .taken) tt)
+gaps-rest-requires : tie.Need-gaps-rest-requires
+gaps-rest-requires c κs = search needs
 
-loop-holds : tie.Need-loop-holds Inv-loop μ-loop
-loop-holds c = (omega arith, omega arith, λ k l h. absurd (omega arith))
-
-mul-if2 : tie.Need-mul-if2 Inv-loop μ-loop
-mul-if2 c = omega arith
-
-shared-slice-read-if2 : tie.Need-shared-slice-read-if2 Inv-loop μ-loop
-shared-slice-read-if2 c = omega arith
-
-returns-2 : tie.Need-returns-2 Inv-loop μ-loop
-returns-2 c =
-    let l = c .before .before .before .loop in
-    record { from = l .inv .0; to = l .inv .1; gaps = λ k h m. l .inv .2 k m h; stops = λ m. c .if2 .taken }
-
-add-i : tie.Need-add-i Inv-loop μ-loop
-add-i c = omega arith
-
-loop-less : tie.Need-loop-less Inv-loop μ-loop
-loop-less c = omega arith
-
-loop-again : tie.Need-loop-again Inv-loop μ-loop
-loop-again c = (omega arith, omega arith, below-more _ _ (c .before .before .before .loop .inv .2) (λ h. c .if2 .left))
-
-returns-3 : tie.Need-returns-3 Inv-loop μ-loop
-returns-3 c =
-    let l = c .before .loop in
-    record { from = l .inv .0; to = l .inv .1; gaps = λ k h m. l .inv .2 k m h; stops = λ m. absurd (omega arith) }
+returns-2 : tie.Need-returns-2
+returns-2 c = search needs
 
 pub gaps-end-spec : {M : Type 1} → statement M
-gaps-end-spec =
-    tie.close
-    (tie.spec
-    Inv-loop
-    μ-loop
-    all-gaps-requires
-    returns
-    loop-holds
-    mul-if2
-    shared-slice-read-if2
-    returns-2
-    add-i
-    loop-less
-    loop-again
-    returns-3)
+gaps-end-spec = tie.close (tie.spec add-if1 all-gaps-requires returns gaps-rest-requires returns-2)

@@ -114,7 +114,8 @@ retarget-requires d κs =
     let s = d .before .before .before .before .before .before .before .before .before .before .before .before .before .before in
     let first : ℕ = s .args .place .segment / c .power .result * c .power .result in
     let big : 128 ≤ length (s .args .list .now) = some-valid (s .args .list .now) (s .args .forecast) (s .args .h) (s .args .keys) (s .pre .0 .valid) in
-    (s .pre .0 .after .tidy, omega (arith, same-len-mid (64 * first) (64 * first + 64 * c .power .result - 64 * first) (s .args .list .now) (d .before .before .before .sweep-in .last .0) (d .before .before .before .sweep-in .kept .0)))
+    let few = small s in
+    (s .pre .0 .after .tidy, (omega (arith, same-len-mid (64 * first) (64 * first + 64 * c .power .result - 64 * first) (s .args .list .now) (d .before .before .before .sweep-in .last .0) (d .before .before .before .sweep-in .kept .0))))
 
 add-t24 : tie.Need-add-t24
 add-t24 c = let s = c .before .before .before .before .before .before .before .before .before .before .before .before .before .before .before in omega (arith, few-valid (s .args .list .now) (s .args .forecast) (s .args .h) (s .args .keys) (s .pre .0 .valid))

@@ -156,7 +156,8 @@ retarget-requires d κs =
     let s = d .before .before .before .before .before .before .before .before .before .before .before .before .before .before .before in
     let first : ℕ = s .args .place .segment / c .power .result * c .power .result in
     let big : 128 ≤ length (s .args .list .now) = some-valid (s .args .list .now) (s .args .forecast) (s .args .h) (s .args .keys) (s .pre .0 .valid) in
-    (s .pre .0 .after .tidy, omega (arith, same-len-mid (64 * first) (64 * first + 64 * c .power .result - 64 * first) (s .args .list .now) (d .before .before .before .sweep-out .last .0) (d .before .before .before .sweep-out .kept .0)))
+    let few = small s in
+    (s .pre .0 .after .tidy, (omega (arith, same-len-mid (64 * first) (64 * first + 64 * c .power .result - 64 * first) (s .args .list .now) (d .before .before .before .sweep-out .last .0) (d .before .before .before .sweep-out .kept .0))))
 
 sub-is-sparse : tie.Need-sub-is-sparse
 sub-is-sparse c = some-keys (c .before .before .before .before .before .before .before .before .before .before .before .before .before .before .before .before)

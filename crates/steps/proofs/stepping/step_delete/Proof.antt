@@ -8,7 +8,7 @@ use borrow.Author.Tests.{not-true, not-false}
 use Rattle.slots.specs.Segments.{segmentsOf}
 use Rattle.slots.specs.Shown.{Shows}
 use Rattle.forecast.specs.Held.{Tidy}
-use Rattle.forecast.proofs.Stepping.{array-long}
+use Rattle.forecast.specs.Held.{Roomy}
 use Rattle.steps.specs.Stepped.{Deleting}
 use Rattle.steps.proofs.FromValid.{shows-valid, some-valid, tidy-valid}
 use Rattle.steps.proofs.DeleteSteps.{delete-zero, delete-absent, deleting, delete-keeps, delete-under, delete-over}
@@ -20,8 +20,8 @@ use Rattle.steps.proofs.stepping.step_delete.Tie as tie
 shows : (s : tie.Start) → Shows (segmentsOf (s .args .list .now)) (s .args .list .now)
 shows s = shows-valid (s .args .list .now) (s .args .forecast) (s .args .h) (s .args .keys) (s .pre)
 
-roomy : (s : tie.Start) → length (s .args .forecast .cells) ≡ 12
-roomy s = search (needs, array-long)
+roomy : (s : tie.Start) → Roomy (s .args .forecast)
+roomy s = record { markers = search needs; segments = search needs; counts = search needs }
 
 tidy : (s : tie.Start) → Tidy (s .args .forecast)
 tidy s = tidy-valid (s .args .list .now) (s .args .forecast) (s .args .h) (s .args .keys) (s .pre) (roomy s)

@@ -5,10 +5,9 @@ use native.Mathlib.Omega.{arith}
 use lib.ListN.{length}
 use Rattle.slots.specs.Segments.{segmentsOf}
 use Rattle.slots.specs.Shown.{Shows}
-use Rattle.forecast.specs.Held.{Tidy}
-use Rattle.forecast.proofs.Stepping.{array-long}
+use Rattle.forecast.specs.Held.{Tidy, Roomy}
 use Rattle.steps.specs.Stepped.{Inserting}
-use Rattle.steps.proofs.FromValid.{height-valid, shows-valid, some-valid, tidy-valid}
+use Rattle.steps.proofs.FromValid.{height-valid, shows-valid, some-valid, small-valid, tidy-valid}
 use Rattle.steps.proofs.InsertSteps.{insert-zero, insert-present, insert-full, insert-over, fresh-place, inserting}
 use borrow.Author.Needs.{needs}
 use Rattle.steps.proofs.stepping.step_insert.Statement.{statement}
@@ -18,8 +17,8 @@ use Rattle.steps.proofs.stepping.step_insert.Tie as tie
 shows : (s : tie.Start) → Shows (segmentsOf (s .args .list .now)) (s .args .list .now)
 shows s = shows-valid (s .args .list .now) (s .args .forecast) (s .args .h) (s .args .keys) (s .pre)
 
-roomy : (s : tie.Start) → length (s .args .forecast .cells) ≡ 12
-roomy s = search (needs, array-long)
+roomy : (s : tie.Start) → Roomy (s .args .forecast)
+roomy s = record { markers = search needs; segments = search needs; counts = search needs }
 
 tidy : (s : tie.Start) → Tidy (s .args .forecast)
 tidy s = tidy-valid (s .args .list .now) (s .args .forecast) (s .args .h) (s .args .keys) (s .pre) (roomy s)
@@ -93,7 +92,9 @@ add-note-insert c =
 note-insert-requires : tie.Need-note-insert-requires
 note-insert-requires c κs =
     let s = c .before .before .before .before .before .before .before .before .before in
-    (tidy s, (omega arith, omega (arith, height-valid (s .args .list .now) (s .args .forecast) (s .args .h) (s .args .keys) (s .pre))))
+    let high = height-valid (s .args .list .now) (s .args .forecast) (s .args .h) (s .args .keys) (s .pre) in
+    let small = small-valid (s .args .list .now) (s .args .forecast) (s .args .h) (s .args .keys) (s .pre) in
+    (tidy s, (omega arith, (omega (arith, high), omega (arith, small))))
 
 -- the predecessor is noted
 noting : (c : tie.After-note-insert)

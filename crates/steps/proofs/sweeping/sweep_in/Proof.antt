@@ -7,7 +7,7 @@ use lib.ListN.{length, take}
 use borrow.Author.Needs.{needs}
 use Rattle.slots.specs.Segments.{keys, segmentsOf}
 use Rattle.slots.specs.Keys.{put}
-use Rattle.slots.specs.Moves.{opened}
+use Rattle.moves.specs.Moves.{opened}
 use Rattle.slots.proofs.Rising.{put-rising}
 use Rattle.rules.specs.Shares.{shares}
 use Rattle.rules.specs.Readings.{Limits}

@@ -7,7 +7,7 @@ use lib.ListN.{length, take}
 use borrow.Author.Needs.{needs}
 use Rattle.slots.specs.Segments.{keys, segmentsOf}
 use Rattle.slots.specs.Keys.{below, cut}
-use Rattle.slots.specs.Moves.{closed}
+use Rattle.moves.specs.Moves.{closed}
 use Rattle.slots.proofs.Rising.{cut-rising}
 use Rattle.rules.specs.Shares.{shares}
 use Rattle.rules.specs.Readings.{Limits}

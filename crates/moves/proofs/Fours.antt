@@ -1,0 +1,119 @@
+-- Slots copied four at a time, the four at the far end, which may overlap those before, read first and written last: laws of a copy of k slots.
+use mathlib.Core.Path.{_≡_, refl, sym, ap, _∙_}
+use Prim.Native.Nat.{ℕ, suc, _+_, _-_, _≤_, _<_}
+use native.Mathlib.Nat.{add-zero}
+use native.Mathlib.Omega.{arith}
+use mathlib.Core.List.{List, [], _∷_, _++_, append-assoc}
+use lib.ListN.{length, getD, set, take, drop, length-take, length-drop}
+use lib.Seq.{paste, sets-eq, length-paste-head, drop-cons, length-take-le, take-at, take-append-le, take-append-add, drop-append-le, drop-append-add, take-take, drop-drop, take-add}
+use Rattle.moves.specs.Moves.{moved}
+use Rattle.moves.proofs.Moving.{Right, right-all}
+use Rattle.moves.proofs.Gaps.{take-drop}
+use Rattle.moves.proofs.Packing.{drop-past, part-alike}
+
+module _ {A : Type 0} where
+  -- FOUR SLOTS, read and written
+  one-read : (l : List A) (n j k : ℕ) (z : A) → k ≡ j + 1 → j < length l → take (suc n) (drop j l) ≡ getD l j z ∷ take n (drop k l)
+  one-read l n j k z e h =
+      let e₁ : suc j ≡ k = omega arith in
+      ap (take (suc n)) (drop-cons l j z h) ∙ ap (λ (m : ℕ). getD l j z ∷ take n (drop m l)) e₁
+
+  pub four-read : (l : List A) (j : ℕ) (z : A) → j + 4 ≤ length l → take 4 (drop j l) ≡ getD l j z ∷ getD l (j + 1) z ∷ getD l (j + 2) z ∷ getD l (j + 3) z ∷ []
+  four-read l j z h =
+      one-read l 3 j (j + 1) z refl (omega arith)
+      ∙ ap (λ (t : List A). getD l j z ∷ t) (one-read l 2 (j + 1) (j + 2) z (omega arith) (omega arith))
+      ∙ ap (λ (t : List A). getD l j z ∷ getD l (j + 1) z ∷ t) (one-read l 1 (j + 2) (j + 3) z (omega arith) (omega arith))
+      ∙ ap (λ (t : List A). getD l j z ∷ getD l (j + 1) z ∷ getD l (j + 2) z ∷ t) (one-read l 0 (j + 3) (j + 4) z (omega arith) (omega arith))
+
+  pub four-put : (l : List A) (to : ℕ) (w x y z : A) → to + 4 ≤ length l → set (set (set (set l to w) (to + 1) x) (to + 2) y) (to + 3) z ≡ paste l to (w ∷ x ∷ y ∷ z ∷ []) 4
+  four-put l to w x y z h =
+      let e₁ : to + 1 ≡ suc to = omega arith in
+      let e₂ : to + 2 ≡ suc (suc to) = omega arith in
+      let e₃ : to + 3 ≡ suc (suc (suc to)) = omega arith in
+      rw (e₁, e₂, e₃) (sets-eq (w ∷ x ∷ y ∷ z ∷ []) l to h)
+
+  -- TO THE LEFT: i slots are copied, and then the k from e on, read from the list as it was
+  take-moved : (l : List A) (from to e i : ℕ) → to ≤ from → from + i ≤ length l → e ≤ i → take (to + e) (moved from to i l) ≡ take to l ++ take e (drop from l)
+  take-moved l from to e i h k j =
+      let d : List A = drop from l in
+      let lt : length (take to l) ≡ to = length-take-le to l (omega arith) in
+      let lp : length (take to l ++ take i d) ≡ to + i = length-paste-head l to d i (omega arith) (simp length-drop (omega arith)) in
+      take-append-le (to + e) (take to l ++ take i d) (drop (to + i) l) (omega arith)
+      ∙ ap (λ (n : ℕ). take (n + e) (take to l ++ take i d)) (sym lt)
+      ∙ take-append-add (take to l) (take i d) e
+      ∙ ap (λ (t : List A). take to l ++ t) (take-take e i d j)
+
+  pub left-lay : (l : List A) (from to e k i : ℕ) → to ≤ from → from + (e + k) ≤ length l → e ≤ i → i ≤ e + k
+      → paste (moved from to i l) (to + e) (drop (from + e) l) k ≡ moved from to (e + k) l
+  left-lay l from to e k i h q j m =
+      let d : List A = drop from l in
+      let M : List A = moved from to i l in
+      let lp : length (take to l ++ take i d) ≡ to + i = length-paste-head l to d i (omega arith) (simp length-drop (omega arith)) in
+      let e₁ : to + e + k ≡ to + (e + k) = omega arith in
+      ap (λ (t : List A). t ++ take k (drop (from + e) l) ++ drop (to + e + k) M) (take-moved l from to e i h (omega arith) j)
+      ∙ ap (λ (t : List A). take to l ++ take e d ++ take k t ++ drop (to + e + k) M) (sym (drop-drop e from l))
+      ∙ ap (λ (t : List A). take to l ++ take e d ++ take k (drop e d) ++ t) (drop-past (take to l ++ take i d) l (to + i) (to + e + k) lp (omega arith))
+      ∙ ap (λ (t : List A). t ++ drop (to + e + k) l) (append-assoc (take to l) (take e d) (take k (drop e d)) ∙ ap (λ (t : List A). take to l ++ t) (sym (take-add e k d)))
+      ∙ ap (λ (n : ℕ). take to l ++ take (e + k) d ++ drop n l) e₁
+
+  pub left-on : (l : List A) (from to i k : ℕ) → to ≤ from → from + (i + k) ≤ length l → moved (from + i) (to + i) k (moved from to i l) ≡ moved from to (i + k) l
+  left-on l from to i k h q =
+      let d : List A = drop from l in
+      let M : List A = moved from to i l in
+      let lp : length (take to l ++ take i d) ≡ to + i = length-paste-head l to d i (omega arith) (simp length-drop (omega arith)) in
+      ap (λ (t : List A). paste M (to + i) t k) (drop-past (take to l ++ take i d) l (to + i) (from + i) lp (omega arith))
+      ∙ left-lay l from to i k i h q (omega arith) (omega arith)
+
+  -- TO THE RIGHT: the first i of c slots are left to copy, and then the k from j on are copied, read from the list as it was
+  drop-right : (l : List A) (from to c i n : ℕ) → from ≤ to → to + c ≤ length l → i ≤ n → n ≤ c
+      → drop (to + n) (Right l from to c i) ≡ take (c - n) (drop (from + n) l) ++ drop (to + c) l
+  drop-right l from to c i n h k p q =
+      let f : List A = take (to + i) l in
+      let D : List A = drop (from + i) l in
+      let r : List A = drop (to + c) l in
+      let lf : length f ≡ to + i = length-take-le (to + i) l (omega arith) in
+      let e₁ : to + n ≡ length f + (n - i) = omega arith in
+      let e₂ : c - i - (n - i) ≡ c - n = omega arith in
+      let e₃ : from + i + (n - i) ≡ from + n = omega arith in
+      ap (λ (m : ℕ). drop m (Right l from to c i)) e₁
+      ∙ drop-append-add f (take (c - i) D ++ r) (n - i)
+      ∙ drop-append-le (n - i) (take (c - i) D) r (simp (length-take, length-drop) (omega arith))
+      ∙ ap (λ (t : List A). t ++ r) (sym (take-drop (n - i) (c - i) D (omega arith) (simp length-drop (omega arith))))
+      ∙ ap (λ (m : ℕ). take m (drop (n - i) D) ++ r) e₂
+      ∙ ap (λ (t : List A). take (c - n) t ++ r) (drop-drop (n - i) (from + i) l ∙ ap (λ (m : ℕ). drop m l) e₃)
+
+  pub right-lay : (l : List A) (from to c j k i : ℕ) → from ≤ to → to + c ≤ length l → j ≤ i → i ≤ j + k → j + k ≤ c
+      → paste (Right l from to c i) (to + j) (drop (from + j) l) k ≡ Right l from to c j
+  right-lay l from to c j k i h q p m n =
+      let R : List A = Right l from to c i in
+      let D : List A = drop (from + j) l in
+      let r : List A = drop (to + c) l in
+      let lf : length (take (to + i) l) ≡ to + i = length-take-le (to + i) l (omega arith) in
+      let e₁ : to + j + k ≡ to + (j + k) = omega arith in
+      let e₂ : from + (j + k) ≡ from + j + k = omega arith in
+      let e₃ : k + (c - (j + k)) ≡ c - j = omega arith in
+      ap (λ (t : List A). t ++ take k D ++ drop (to + j + k) R) (take-append-le (to + j) (take (to + i) l) (take (c - i) (drop (from + i) l) ++ r) (omega arith) ∙ take-take (to + j) (to + i) l (omega arith))
+      ∙ ap (λ (t : List A). take (to + j) l ++ take k D ++ t) (ap (λ (m : ℕ). drop m R) e₁ ∙ drop-right l from to c i (j + k) h q m n)
+      ∙ ap (λ (t : List A). take (to + j) l ++ take k D ++ (take (c - (j + k)) t ++ r)) (ap (λ (m : ℕ). drop m l) e₂ ∙ sym (drop-drop k (from + j) l))
+      ∙ append-assoc (take (to + j) l) (take k D) (take (c - (j + k)) (drop k D) ++ r)
+      ∙ ap (λ (t : List A). take (to + j) l ++ t) (sym (append-assoc (take k D) (take (c - (j + k)) (drop k D)) r) ∙ ap (λ (t : List A). t ++ r) (sym (take-add k (c - (j + k)) D)))
+      ∙ ap (λ (m : ℕ). take (to + j) l ++ (take m D ++ r)) e₃
+
+  pub right-last : (l : List A) (from to c k i : ℕ) → from ≤ to → to + c ≤ length l → i ≤ k → k ≤ c → paste (Right l from to c i) to (drop from l) k ≡ moved from to c l
+  right-last l from to c k i h q m n =
+      ap (λ (t : ℕ). paste (Right l from to c i) t (drop from l) k) (sym (add-zero to))
+      ∙ ap (λ (t : ℕ). paste (Right l from to c i) (to + 0) (drop t l) k) (sym (add-zero from))
+      ∙ right-lay l from to c 0 k i h q (omega arith) (omega arith) (omega arith)
+      ∙ right-all l from to c
+
+  pub right-on : (l : List A) (from to c i k : ℕ) → from ≤ to → to + c ≤ length l → i ≤ c → k ≤ i
+      → moved (from + (i - k)) (to + (i - k)) k (Right l from to c i) ≡ Right l from to c (i - k)
+  right-on l from to c i k h q m n =
+      let j : ℕ = i - k in
+      let R : List A = Right l from to c i in
+      let f : List A = take (to + i) l in
+      let r : List A = take (c - i) (drop (from + i) l) ++ drop (to + c) l in
+      let lf : length f ≡ to + i = length-take-le (to + i) l (omega arith) in
+      let e : take k (drop (from + j) R) ≡ take k (drop (from + j) l) = part-alike (from + j) k (to + i) R l (omega arith) (take-at f r (to + i) lf) in
+      ap (λ (t : List A). take (to + j) R ++ t ++ drop (to + j + k) R) e
+      ∙ right-lay l from to c j k i h q (omega arith) (omega arith) (omega arith)

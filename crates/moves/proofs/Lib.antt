@@ -1,0 +1,6 @@
+pub mod Moving
+pub mod Gaps
+pub mod Packing
+pub mod Fours
+pub mod Inserting
+pub mod Spreading

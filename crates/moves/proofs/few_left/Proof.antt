@@ -1,0 +1,64 @@
+-- few_left meets its contract. Invariant: after i turns the part is that of a movement of i slots.
+use Prim.Native.Nat.{ℕ, _-_, _≤_}
+use mathlib.Core.Path.{_≡_, ap, _∙_}
+use native.Mathlib.Omega.{arith}
+use lib.ListN.{length, length-set}
+use Rattle.moves.specs.Moves.{moved}
+use Rattle.moves.proofs.Moving.{left-none, left-more}
+use Rattle.moves.proofs.few_left.Statement.{statement}
+use Rattle.moves.proofs.few_left.Tie as tie
+
+abbrev Inv-loop : tie.InvT-loop
+Inv-loop part₀ from to count i₀ part i =
+    (i ≤ count) × (length part ≡ length part₀) × (part ≡ moved from to i part₀)
+
+abbrev μ-loop : tie.MeasureT-loop
+μ-loop part₀ from to count i₀ part i = count - i
+
+loop-holds : tie.Need-loop-holds Inv-loop μ-loop
+loop-holds c = (omega arith, omega arith, left-none _ (c .args .from) (c .args .to))
+
+add-part : tie.Need-add-part Inv-loop μ-loop
+add-part c = omega arith
+
+mul-part : tie.Need-mul-part Inv-loop μ-loop
+mul-part c = omega arith
+
+slice-read-part : tie.Need-slice-read-part Inv-loop μ-loop
+slice-read-part c = omega arith
+
+add-part-2 : tie.Need-add-part-2 Inv-loop μ-loop
+add-part-2 c = omega arith
+
+mul-part-2 : tie.Need-mul-part-2 Inv-loop μ-loop
+mul-part-2 c = omega arith
+
+slice-write-part : tie.Need-slice-write-part Inv-loop μ-loop
+slice-write-part c = omega arith
+
+add-i : tie.Need-add-i Inv-loop μ-loop
+add-i c = omega arith
+
+loop-less : tie.Need-loop-less Inv-loop μ-loop
+loop-less c = omega arith
+
+loop-again : tie.Need-loop-again Inv-loop μ-loop
+loop-again c =
+    let a = c .before .before .before .args in
+    let i = c .before .before .loop .i in
+    let inv = c .before .before .loop .inv in
+    (omega arith, simp length-set (omega arith), rw (inv .2) (left-more _ (a .from) (a .to) i 0 (omega arith) (omega arith)))
+
+same-length : tie.Need-same-length Inv-loop μ-loop
+same-length c = omega arith
+
+returns : tie.Need-returns Inv-loop μ-loop
+returns c =
+    let a = c .before .before .args in
+    let e : c .before .loop .i ≡ a .count = omega arith in
+    c .before .loop .inv .2 ∙ ap (λ (n : ℕ). moved (a .from) (a .to) n (a .part .now)) e
+
+pub few-left-spec : {M : Type 1} → statement M
+few-left-spec =
+    tie.close
+    (tie.spec Inv-loop μ-loop loop-holds add-part mul-part slice-read-part add-part-2 mul-part-2 slice-write-part add-i loop-less loop-again same-length returns)

@@ -1,0 +1,39 @@
+-- open_gap meets its contract: a movement to the right and one store.
+use native.Mathlib.Omega.{arith}
+use Rattle.moves.proofs.Gaps.{open-step}
+use borrow.Author.Needs.{needs}
+use Rattle.moves.proofs.open_gap.Statement.{statement}
+use Rattle.moves.proofs.open_gap.Tie as tie
+
+add-move-right : tie.Need-add-move-right
+add-move-right c = search needs
+
+sub-move-right : tie.Need-sub-move-right
+sub-move-right c = search needs
+
+move-right-requires : tie.Need-move-right-requires
+move-right-requires c κs = search needs
+
+mul-part : tie.Need-mul-part
+mul-part c = search needs
+
+slice-write-part : tie.Need-slice-write-part
+slice-write-part c = search needs
+
+same-length : tie.Need-same-length
+same-length c = search needs
+
+returns : tie.Need-returns
+returns c = rw (c .before .before .move-right .ensures) (open-step _ _ _ _ (omega arith) (omega arith))
+
+pub open-gap-spec : {M : Type 1} → statement M
+open-gap-spec =
+    tie.close
+    (tie.spec
+    add-move-right
+    sub-move-right
+    move-right-requires
+    mul-part
+    slice-write-part
+    same-length
+    returns)

@@ -5,7 +5,7 @@ use mathlib.Core.List.{List, [], _∷_, _++_}
 use lib.ListN.{take, drop, replicate}
 use lib.Seq.{paste}
 use Rattle.lists.specs.Lists.{total, insertAt, without}
-use Rattle.moves.specs.declared.Four.{Four}
+use Rattle.moves.specs.declared.by_four.Four.{Four}
 
 module _ {A : Type 0} where
   -- count elements from index from, copied to index to

@@ -4,8 +4,8 @@ use mathlib.Core.Path.{_≡_, sym, ap, _∙_}
 use mathlib.Core.List.{List, _++_}
 use lib.ListN.{take, drop}
 use borrow.Author.Needs.{needs}
-use Rattle.moves.proofs.move_four.Statement.{statement}
-use Rattle.moves.proofs.move_four.Tie as tie
+use Rattle.moves.proofs.by_four.move_four.Statement.{statement}
+use Rattle.moves.proofs.by_four.move_four.Tie as tie
 
 read-four-requires : tie.Need-read-four-requires
 read-four-requires c κs = search needs

@@ -3,8 +3,8 @@ use native.Mathlib.Omega.{arith}
 use lib.ListN.{length-set}
 use Rattle.moves.proofs.Fours.{four-put}
 use borrow.Author.Needs.{needs}
-use Rattle.moves.proofs.put_four.Statement.{statement}
-use Rattle.moves.proofs.put_four.Tie as tie
+use Rattle.moves.proofs.by_four.put_four.Statement.{statement}
+use Rattle.moves.proofs.by_four.put_four.Tie as tie
 
 mul-part : tie.Need-mul-part
 mul-part c = search needs

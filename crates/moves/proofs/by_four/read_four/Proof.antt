@@ -2,8 +2,8 @@
 use native.Mathlib.Omega.{arith}
 use Rattle.moves.proofs.Fours.{four-read}
 use borrow.Author.Needs.{needs}
-use Rattle.moves.proofs.read_four.Statement.{statement}
-use Rattle.moves.proofs.read_four.Tie as tie
+use Rattle.moves.proofs.by_four.read_four.Statement.{statement}
+use Rattle.moves.proofs.by_four.read_four.Tie as tie
 
 mul-t3 : tie.Need-mul-t3
 mul-t3 c = search needs

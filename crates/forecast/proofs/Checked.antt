@@ -14,7 +14,7 @@ use Rattle.lists.specs.Lists.{anyOf}
 use Rattle.lists.specs.Search.{first, placeBy}
 use Rattle.lists.proofs.Tests.{tested, is-true, is-false}
 use Rattle.lists.proofs.Members.{at-mem}
-use Rattle.lists.proofs.Only.{any-some, some-any}
+use Rattle.lists.proofs.Filtered.{any-some, some-any}
 use Rattle.lists.proofs.Search.{place-passes, place-mem, first-is, first-none}
 use Rattle.slots.specs.Segments.{Segments, keys}
 use Rattle.slots.specs.Keys.{member, segmentOf}

@@ -12,7 +12,7 @@ use Rattle.lists.specs.Choice.{if_then_else_}
 use Rattle.lists.specs.Lists.{anyOf}
 use Rattle.lists.proofs.Tests.{and-left, and-right, or-cases, neither, double-not, neqb→ne}
 use Rattle.lists.proofs.Members.{mem-at, at-mem}
-use Rattle.lists.proofs.Only.{any-none, any-some}
+use Rattle.lists.proofs.Filtered.{any-none, any-some}
 use Rattle.slots.specs.Segments.{Segments, keys}
 use Rattle.slots.specs.Keys.{member, segmentOf}
 use Rattle.forecast.specs.declared.Cell.{Cell}

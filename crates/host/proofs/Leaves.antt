@@ -18,10 +18,10 @@ use Rattle.rules.specs.Runs.{one}
 use Rattle.rules.specs.Checks as checks
 use Rattle.rules.specs.Calls as rules
 use Rattle.rules.specs.Rows.{Row, Tells, row1, row5, row6, row7, row8}
-use Rattle.rules.proofs.Numbers as below
-use Rattle.rules.proofs.Refused.{request-refused, lookup-refused, scan-refused, make-refused}
-use Rattle.rules.proofs.Runs.{run-refused}
-use Rattle.rules.proofs.Singly as singly
+use Rattle.rules.proofs.Refusals.Numbers as below
+use Rattle.rules.proofs.Refusals.Refused.{request-refused, lookup-refused, scan-refused, make-refused}
+use Rattle.rules.proofs.Running.Runs.{run-refused}
+use Rattle.rules.proofs.Running.Singly as singly
 use Rattle.words.specs.Words.{cellWords, forecastIn, forecastWords}
 use Rattle.host.specs.Tallies.{totalsIn, totalsWords}
 use Rattle.host.specs.Calls.{Outcome, sized, notForecast, notTotals, short, over, replyWords, make, lookup, insert, delete, scan, run}

@@ -11,10 +11,10 @@ use Rattle.lists.proofs.Tests.{double-not, neqb→ne}
 use Rattle.rules.specs.Checks as checks
 use Rattle.rules.specs.Calls as rules
 use Rattle.rules.specs.Rows.{Row, Tells, row1, row2, row3, row4, row5, row6, row7, row8, row9, row10}
-use Rattle.rules.proofs.Tells.{Decides, tells-if, tells-after}
-use Rattle.rules.proofs.Numbers as below
-use Rattle.rules.proofs.Runs.{run-refused}
-use Rattle.rules.proofs.Singly as singly
+use Rattle.rules.proofs.Refusals.RowsInOrder.{Decides, tells-if, tells-after}
+use Rattle.rules.proofs.Refusals.Numbers as below
+use Rattle.rules.proofs.Running.Runs.{run-refused}
+use Rattle.rules.proofs.Running.Singly as singly
 use Rattle.words.specs.Words.{forecastIn}
 use Rattle.host.specs.Tallies.{totalsIn}
 use Rattle.host.specs.Calls.{Outcome, sized, notForecast, notTotals, short, make, check, lookup, insert, delete, scan, run}

@@ -15,8 +15,8 @@ use Rattle.run.specs.declared.Run.{Run}
 use Rattle.run.specs.Admits.{RunAdmits}
 use Rattle.rules.specs.Checks as checks
 use Rattle.rules.specs.Rows.{Tells, row1, row2, row3, row4, row9, row10}
-use Rattle.rules.proofs.Numbers as below
-use Rattle.rules.proofs.Singly as singly
+use Rattle.rules.proofs.Refusals.Numbers as below
+use Rattle.rules.proofs.Running.Singly as singly
 use Rattle.words.specs.Words.{forecastIn, forecastWords, saturated}
 use Rattle.words.proofs.WordLaws.{words-again, forecastIn-roomy}
 use Rattle.words.proofs.Called.{run-same}

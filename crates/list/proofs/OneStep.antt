@@ -17,10 +17,10 @@ use Rattle.rules.specs.Shares.{Shares, capacity}
 use Rattle.rules.specs.Placing.{Room, Answer, Outcome, refused, refusedBy, insertKey, deleteKey, outcome}
 use Rattle.rules.specs.Checks.{sharesOf, check}
 use Rattle.rules.specs.Calls.{roomOf, Called, request}
-use Rattle.rules.proofs.Accepted.{insert-accepts, delete-accepts, settled-sparse}
-use Rattle.rules.proofs.Checked.{checked}
-use Rattle.rules.proofs.MoveBound.{moves-bound}
-use Rattle.rules.proofs.Requests.{lent, lent-refused, lent-accepted, request-unchecked, by-number}
+use Rattle.rules.proofs.Requests.Accepted.{insert-accepts, delete-accepts, settled-sparse}
+use Rattle.rules.proofs.Requests.Checked.{checked}
+use Rattle.rules.proofs.Requests.MoveBound.{moves-bound}
+use Rattle.rules.proofs.Requests.SingleCalls.{lent, lent-refused, lent-accepted, request-unchecked, by-number}
 use Rattle.steps.specs.declared.Effect.the-variants.{Done}
 use Rattle.steps.specs.declared.Step.{Step}
 use Rattle.list.specs.declared.InsertAnswer.{InsertAnswer}

@@ -16,9 +16,9 @@ use Rattle.rules.specs.declared.Request.the-variants.{Insert, Delete}
 use Rattle.rules.specs.Checks.{checkList, check}
 use Rattle.rules.specs.Looking.{notFound, Scanned, scanned}
 use Rattle.rules.specs.Calls.{Made, Called, request, unchanged, scan}
-use Rattle.rules.proofs.Checked.{passed, keys-shown}
-use Rattle.rules.proofs.Requests.{request-unchecked}
-use Rattle.rules.proofs.SetScan.{scanned-number, scan-none}
+use Rattle.rules.proofs.Requests.Checked.{passed, keys-shown}
+use Rattle.rules.proofs.Requests.SingleCalls.{request-unchecked}
+use Rattle.rules.proofs.Sets.SetScan.{scanned-number, scan-none}
 use Rattle.list.specs.declared.MakeAnswer.{MakeAnswer}
 use Rattle.list.specs.declared.MakeReply.{MakeReply}
 use Rattle.list.specs.declared.CheckAnswer.{CheckAnswer}
@@ -32,7 +32,7 @@ use Rattle.list.specs.Answers.{scanPaper}
 use Rattle.list.specs.Admits.{MakeAdmits, CheckAdmits, LookupAdmits, ScanAdmits, InsertAdmits, DeleteAdmits}
 use Rattle.steps.proofs.Numbers.{wrong-length, list-first}
 use Rattle.list.proofs.Replies.{make-refused, lookup-refused, scan-passed}
-use Rattle.list.proofs.Above.{refused-admits}
+use Rattle.list.proofs.KeysAbove.{refused-admits}
 use Rattle.list.proofs.Papers.{make-told, check-told, lookup-told, scan-told, insert-told, delete-told}
 use Rattle.list.proofs.OneOutcome.{scan-one}
 

@@ -1,7 +1,7 @@
 pub mod Tests
 pub mod Computed
 pub mod Members
-pub mod Only
+pub mod Filtered
 pub mod Joined
 pub mod Maps
 pub mod Search

@@ -22,14 +22,14 @@ use Rattle.rules.specs.Calls.{roomOf, lookup, scan, request}
 use Rattle.rules.specs.PlainSet as set
 use Rattle.rules.specs.Demand2.{Held, told, after, allTold, afterAll, made, Demand2}
 use Rattle.rules.specs.Demand3.{setAfter}
-use Rattle.rules.proofs.Table.{ends}
-use Rattle.rules.proofs.KeysKept.{keys-kept}
-use Rattle.rules.proofs.Checked.{passed, list-passes, checked, keys-shown}
-use Rattle.rules.proofs.Requests.{lent, by-number, lent-accepted, lent-refused, request-answer, request-keeps, good-lent}
-use Rattle.rules.proofs.Empty.{made-length, made-passes, made-keys}
-use Rattle.rules.proofs.SetSteps.{insert-number, delete-number, delete-sparse}
-use Rattle.rules.proofs.SetLookup.{lookup-told}
-use Rattle.rules.proofs.SetScan.{scan-told}
+use Rattle.rules.proofs.Sharing.Table.{ends}
+use Rattle.rules.proofs.Requests.KeysKept.{keys-kept}
+use Rattle.rules.proofs.Requests.Checked.{passed, list-passes, checked, keys-shown}
+use Rattle.rules.proofs.Requests.SingleCalls.{lent, by-number, lent-accepted, lent-refused, request-answer, request-keeps, good-lent}
+use Rattle.rules.proofs.Requests.MadeEmpty.{made-length, made-passes, made-keys}
+use Rattle.rules.proofs.Sets.SetSteps.{insert-number, delete-number, delete-sparse}
+use Rattle.rules.proofs.Sets.SetLookup.{lookup-told}
+use Rattle.rules.proofs.Sets.SetScan.{scan-told}
 
 -- list and forecast pass the check, at height h, and the live keys are the set
 record Holds (h : ℕ) (H : Held) (ks : List ℕ) : Type 0 where

@@ -19,9 +19,9 @@ use Rattle.rules.specs.Placing.{Room, Outcome, outcome}
 use Rattle.rules.specs.Readings.{Limits, Proper}
 use Rattle.rules.specs.History.{Event, falls, sweepsAt, sweeps, inserts, deletes, someSweeps, eventAt, accepted, after, events}
 use Rattle.rules.specs.Demand3.{Inside, Again, SweptAgain, Taken, counted}
-use Rattle.rules.proofs.Settled.{Asked, kept, left, cause}
-use Rattle.rules.proofs.Accepted.{refused-is}
-use Rattle.rules.proofs.Moved.{Moved, moved}
+use Rattle.rules.proofs.Sweeping.Settled.{Asked, kept, left, cause}
+use Rattle.rules.proofs.Requests.Accepted.{refused-is}
+use Rattle.rules.proofs.Requests.Moved.{Moved, moved}
 
 inserts-append : (l s : ℕ) (es fs : List Event) → inserts l s (es ++ fs) ≡ inserts l s es + inserts l s fs
 inserts-append l s [] fs = omega arith

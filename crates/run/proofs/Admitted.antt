@@ -8,7 +8,7 @@ use Rattle.rules.specs.declared.Totals.{Totals}
 use Rattle.rules.specs.Checks.{check}
 use Rattle.rules.specs.Calls.{Worked, stoppedAtOnce, worked, run}
 use Rattle.rules.specs.Runs as runs
-use Rattle.rules.proofs.Runs.{run-refused, run-checked}
+use Rattle.rules.proofs.Running.Runs.{run-refused, run-checked}
 use Rattle.run.specs.declared.Ended.{Ended}
 use Rattle.run.specs.Sums.{counted}
 use Rattle.run.specs.Working.{whole, Ends}

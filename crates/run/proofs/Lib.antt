@@ -1,6 +1,6 @@
 pub mod KeyBytes
 pub mod Readings
-pub mod Turns
-pub mod Going
+pub mod StepInRun
+pub mod MidRun
 pub mod Admitted
 pub mod OneOutcome

@@ -11,8 +11,8 @@ use Rattle.slots.proofs.Windows.{double, pow-pos}
 use Rattle.rules.specs.Shares.{Shares, shares}
 use Rattle.rules.specs.SharingOut.{leftShare, plan}
 use Rattle.rules.specs.Readings.{Limits}
-use Rattle.rules.proofs.Table.{lawful}
-use Rattle.rules.proofs.SharingOut.{inner}
+use Rattle.rules.proofs.Sharing.Table.{lawful}
+use Rattle.rules.proofs.Sharing.SharingOut.{inner}
 use Rattle.sharing.specs.Plans.{Splits, Planned}
 use Rattle.sharing.proofs.Weighing.{first-part, other-part, length-stretch}
 use Rattle.sharing.proofs.Splitting.{Ranged}

@@ -7,7 +7,7 @@ use native.Mathlib.Omega.{arith}
 use lib.Dec.{T, leb, eqb, eqb→eq, leb→le}
 use Rattle.lists.proofs.Tests.{and-left, and-right}
 use Rattle.rules.specs.Shares.{shares, rowAt}
-use Rattle.rules.proofs.Table.{at}
+use Rattle.rules.proofs.Sharing.Table.{at}
 
 abbrev highs : List (List ℕ)
 highs =

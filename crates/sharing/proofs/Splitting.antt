@@ -9,7 +9,7 @@ use lib.ListN.{length}
 use Rattle.lists.specs.Lists.{total}
 use Rattle.rules.specs.Shares.{Shares}
 use Rattle.rules.specs.SharingOut.{formula6, least, leftShare}
-use Rattle.rules.proofs.Splits.{share-even, share-least}
+use Rattle.rules.proofs.Sharing.Splits.{share-even, share-least}
 use Rattle.sharing.specs.Plans.{Splits}
 use Rattle.sharing.specs.Tries.{Halves}
 

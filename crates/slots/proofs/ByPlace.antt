@@ -14,7 +14,7 @@ use lib.Seq.{take-append-seam, drop-append-seam, drop-append-add}
 use native.Mathlib.Numerals.{add-one}
 use Rattle.lists.specs.Lists.{All, insertAt, without}
 use Rattle.lists.proofs.Tests.{le→nltb}
-use Rattle.lists.proofs.Only.{only-all, only-none}
+use Rattle.lists.proofs.Filtered.{only-all, only-none}
 use Rattle.slots.specs.Keys.{Rising, member, below, above, put, cut}
 use Rattle.slots.proofs.Keys.{not-member}
 

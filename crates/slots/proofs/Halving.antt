@@ -12,7 +12,7 @@ use lib.ListN.{length, getD, List·getD-eq-default}
 use Rattle.lists.specs.Lists.{All, padded}
 use Rattle.lists.proofs.Tests.{same-test, le→nltb, eq→eqb}
 use Rattle.lists.proofs.Members.{mem-at, at-mem}
-use Rattle.lists.proofs.Only.{only-none}
+use Rattle.lists.proofs.Filtered.{only-none}
 use Rattle.lists.proofs.Fill.{getD-padded}
 use Rattle.slots.specs.Keys.{Rising, member, below}
 use Rattle.slots.proofs.Padded.{past-keys}

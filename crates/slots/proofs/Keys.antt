@@ -17,7 +17,7 @@ use Rattle.lists.specs.Choice.{if_then_else_}
 use Rattle.lists.specs.Lists.{All, joined, splice}
 use Rattle.lists.specs.Search.{placeBy}
 use Rattle.lists.proofs.Tests.{either}
-use Rattle.lists.proofs.Only.{mem-only, any-some, some-any}
+use Rattle.lists.proofs.Filtered.{mem-only, any-some, some-any}
 use Rattle.lists.proofs.Joined.{joined-append}
 use Rattle.lists.proofs.Search.{place-mem, place-passes}
 use Rattle.slots.specs.Segments.{Segments, keys}

@@ -8,7 +8,7 @@ use native.Mathlib.Omega.{arith}
 use borrow.Author.Tests.{ne-eqb}
 use Rattle.lists.specs.Lists.{All}
 use Rattle.lists.proofs.Tests.{neqb→ne}
-use Rattle.lists.proofs.Only.{only-mem}
+use Rattle.lists.proofs.Filtered.{only-mem}
 use Rattle.slots.specs.Segments.{isKey, live}
 use Rattle.slots.specs.Keys.{Rising}
 use Rattle.slots.specs.Orders.{slotAt}

@@ -14,7 +14,7 @@ use Rattle.lists.specs.Lists.{parts}
 use Rattle.lists.specs.Search.{placeBy}
 use Rattle.lists.proofs.Tests.{is-true, is-false, ne→neqb}
 use Rattle.lists.proofs.Members.{mem-at, at-mem}
-use Rattle.lists.proofs.Only.{only-mem, mem-only, any-some, some-any}
+use Rattle.lists.proofs.Filtered.{only-mem, mem-only, any-some, some-any}
 use Rattle.slots.specs.Segments.{isKey, live, segmentsOf}
 use Rattle.slots.specs.Keys.{member, segmentOf}
 use Rattle.slots.specs.Orders.{slotAt}

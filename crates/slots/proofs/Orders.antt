@@ -15,7 +15,7 @@ use Rattle.lists.specs.Lists.{anyOf}
 use Rattle.lists.specs.Search.{first}
 use Rattle.lists.proofs.Tests.{either, tested, and-left, and-right, and-both, or-left, or-right, or-cases, neqb→ne, ne→neqb, eq→eqb}
 use Rattle.lists.proofs.Members.{mem-at, at-mem}
-use Rattle.lists.proofs.Only.{only-mem, mem-only, any-some, some-any}
+use Rattle.lists.proofs.Filtered.{only-mem, mem-only, any-some, some-any}
 use Rattle.lists.proofs.Search.{Firsts, firsts}
 use Rattle.slots.specs.declared.Order.{Order}
 use Rattle.slots.specs.declared.Order.the-variants.{Kept, NotRising, AfterGap}

@@ -11,7 +11,7 @@ use lib.Seq.{getD-take}
 use Rattle.lists.specs.Lists.{All, padded}
 use Rattle.lists.proofs.Tests.{ne→neqb}
 use Rattle.lists.proofs.Members.{at-mem}
-use Rattle.lists.proofs.Only.{only-append, only-all}
+use Rattle.lists.proofs.Filtered.{only-append, only-all}
 use Rattle.slots.specs.Segments.{isKey, live, pad}
 use Rattle.slots.specs.Orders.{slotAt}
 use Rattle.slots.proofs.Orders.{Solid}

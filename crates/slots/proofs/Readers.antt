@@ -13,7 +13,7 @@ use lib.ListN.{length, take, length-append, length-take}
 use lib.Seq.{take-suc, take-all}
 use Rattle.lists.specs.Choice.{if_then_else_}
 use Rattle.lists.proofs.Tests.{either, tested, nor, is-true, is-false}
-use Rattle.lists.proofs.Only.{only-append, only-length}
+use Rattle.lists.proofs.Filtered.{only-append, only-length}
 use Rattle.lists.proofs.Search.{first-is, first-none}
 use Rattle.slots.specs.declared.Order.{Order}
 use Rattle.slots.specs.declared.Order.the-variants.{Kept, NotRising, AfterGap}

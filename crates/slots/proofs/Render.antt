@@ -10,7 +10,7 @@ use lib.ListN.{length, take, drop, getD, replicate, length-drop, length-map, tak
 use lib.Seq.{length-take-le, getD-append-add}
 use Rattle.lists.specs.Lists.{All, joined, padded, parts}
 use Rattle.lists.proofs.Members.{map-all}
-use Rattle.lists.proofs.Only.{only-append, only-length}
+use Rattle.lists.proofs.Filtered.{only-append, only-length}
 use Rattle.lists.proofs.Fill.{length-padded, getD-padded}
 use Rattle.lists.proofs.Parts.{joined-parts, part-length, parts-joined, length-parts, length-joined-parts}
 use Rattle.slots.specs.Segments.{isKey, live, Segments, keys, pad, render, segmentsOf}

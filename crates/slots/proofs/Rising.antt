@@ -14,7 +14,7 @@ use borrow.Author.Tests.{lt-ltb, le-ltb}
 use lib.ListN.{length, length-append}
 use Rattle.lists.specs.Lists.{All, only}
 use Rattle.lists.proofs.Tests.{either, le→nltb}
-use Rattle.lists.proofs.Only.{only-append, only-all, only-none, only-mem, mem-only}
+use Rattle.lists.proofs.Filtered.{only-append, only-all, only-none, only-mem, mem-only}
 use Rattle.slots.specs.Keys.{Rising, below, above, put, cut}
 
 pub rising-left : (xs ys : List ℕ) → Rising (xs ++ ys) → Rising xs

@@ -13,7 +13,7 @@ use Rattle.lists.specs.Choice.{if_then_else_}
 use Rattle.lists.specs.Lists.{All}
 use Rattle.lists.proofs.Tests.{same-test, tested, is-true, is-false}
 use Rattle.lists.proofs.Members.{mem-at, at-mem}
-use Rattle.lists.proofs.Only.{only-length}
+use Rattle.lists.proofs.Filtered.{only-length}
 use Rattle.slots.specs.Segments.{Segments, keys}
 use Rattle.slots.specs.Keys.{Rising, Listed, member, below, predecessor, segmentOf}
 use Rattle.slots.specs.Shown.{seat}

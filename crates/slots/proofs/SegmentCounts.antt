@@ -10,7 +10,7 @@ use lib.ListN.{length, take, drop, getD, set, length-append, length-map, List·g
 use lib.Seq.{take-add, take-all, drop-drop}
 use Rattle.lists.specs.Lists.{total, parts}
 use Rattle.lists.proofs.Tests.{either}
-use Rattle.lists.proofs.Only.{only-append}
+use Rattle.lists.proofs.Filtered.{only-append}
 use Rattle.lists.proofs.Parts.{length-parts}
 use Rattle.slots.specs.declared.Order.{Order}
 use Rattle.slots.specs.Segments.{isKey, live, segmentsOf}

@@ -17,8 +17,8 @@ use Rattle.forecast.specs.Cells.{usedCells, weight}
 use Rattle.rules.specs.Shares.{shares}
 use Rattle.rules.specs.SharingOut.{plan, shareOut}
 use Rattle.rules.specs.Readings.{Limits}
-use Rattle.rules.proofs.Table.{lawful, ends}
-use Rattle.rules.proofs.SharingOut.{length-plan, total-plan, inside}
+use Rattle.rules.proofs.Sharing.Table.{lawful, ends}
+use Rattle.rules.proofs.Sharing.SharingOut.{length-plan, total-plan, inside}
 use Rattle.sharing.specs.Plans.{Planned}
 use Rattle.sharing.proofs.Rows.{high-row}
 use Rattle.steps.specs.Sweeps.{shared}

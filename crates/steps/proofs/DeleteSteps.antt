@@ -24,9 +24,9 @@ use Rattle.rules.specs.Shares.{shares}
 use Rattle.rules.specs.Placing.{deleteLevel}
 use Rattle.rules.specs.Checks.{sharesOf}
 use Rattle.rules.specs.Calls.{roomOf}
-use Rattle.rules.proofs.Table.{ends}
-use Rattle.rules.proofs.SweptWindow.{length-cut-in}
-use Rattle.rules.proofs.OutcomeCases.{outcome-delete-zero, outcome-delete-absent}
+use Rattle.rules.proofs.Sharing.Table.{ends}
+use Rattle.rules.proofs.Sweeping.SweptWindow.{length-cut-in}
+use Rattle.rules.proofs.Requests.OutcomeCases.{outcome-delete-zero, outcome-delete-absent}
 use Rattle.steps.specs.declared.Effect.the-variants.{Over, KeyZero, KeyAbsent}
 use Rattle.steps.specs.Stepped.{Valid, Deleting, Unswept, idle, Steps}
 use Rattle.steps.proofs.FromValid.{height-valid, shows-valid, cells-valid}

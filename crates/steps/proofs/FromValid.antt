@@ -5,7 +5,7 @@ use Prim.Native.Nat.{ℕ, _*_, _/_, _^_, _≤_}
 use native.Mathlib.Nat.{pow-le-pow-right}
 use native.Mathlib.Omega.{arith}
 use lib.ListN.{length}
-use Rattle.lists.proofs.Only.{only-length}
+use Rattle.lists.proofs.Filtered.{only-length}
 use Rattle.slots.specs.Segments.{isKey, keys, heightOf, segmentsOf}
 use Rattle.slots.specs.Shown.{Shows}
 use Rattle.forecast.specs.declared.Forecast.{Forecast}
@@ -16,9 +16,9 @@ use Rattle.rules.specs.Shares.{Shares, shares, capacity}
 use Rattle.rules.specs.Checks.{sharesOf, checkList}
 use Rattle.rules.specs.Calls.{roomOf}
 use Rattle.forecast.specs.Held.{Roomy}
-use Rattle.rules.proofs.Table.{ends}
-use Rattle.rules.proofs.Good.{Good}
-use Rattle.rules.proofs.Checked.{Passed, passed, list-passes, checked, keys-shown, forecast-shown}
+use Rattle.rules.proofs.Sharing.Table.{ends}
+use Rattle.rules.proofs.Requests.StaysGood.{Good}
+use Rattle.rules.proofs.Requests.Checked.{Passed, passed, list-passes, checked, keys-shown, forecast-shown}
 use Rattle.steps.specs.Stepped.{Valid}
 use Rattle.steps.proofs.Valid.{shows-passed, long-passed, capacity-passed}
 

@@ -10,7 +10,7 @@ use lib.ListN.{length, take, drop, getD, length-map, List·getD-eq-default, List
 use lib.Seq.{take-at}
 use Rattle.lists.specs.Lists.{insertAt, without}
 use Rattle.lists.proofs.Members.{at-mem}
-use Rattle.lists.proofs.Only.{only-length}
+use Rattle.lists.proofs.Filtered.{only-length}
 use Rattle.lists.proofs.Fill.{length-without}
 use Rattle.slots.specs.Segments.{isKey, Segments, keys, segmentsOf}
 use Rattle.slots.specs.Keys.{Rising, member, below, put, cut}

@@ -21,7 +21,7 @@ use Rattle.forecast.proofs.Became.{is-became, noted-few}
 use Rattle.rules.specs.declared.Request.the-variants.{Insert}
 use Rattle.rules.specs.Checks.{sharesOf}
 use Rattle.rules.specs.Calls.{roomOf}
-use Rattle.rules.proofs.OutcomeCases.{outcome-insert-zero, outcome-insert-present, outcome-insert-full}
+use Rattle.rules.proofs.Requests.OutcomeCases.{outcome-insert-zero, outcome-insert-present, outcome-insert-full}
 use Rattle.steps.specs.declared.Effect.the-variants.{Over, KeyZero, KeyPresent, Full}
 use Rattle.steps.specs.Stepped.{Valid, Inserting, idle, Steps}
 use Rattle.steps.proofs.FromValid.{height-valid, keys-valid, capacity-valid, cells-valid}

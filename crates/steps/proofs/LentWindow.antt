@@ -18,7 +18,7 @@ use Rattle.slots.proofs.Render.{length-render, segments-render}
 use Rattle.slots.proofs.Carried.{window-fits, window-lent, window-put}
 use Rattle.rules.specs.Shares.{shares}
 use Rattle.rules.specs.Readings.{Limits}
-use Rattle.rules.proofs.SweptWindow.{keys-window}
+use Rattle.rules.proofs.Sweeping.SweptWindow.{keys-window}
 use Rattle.steps.specs.Sweeps.{Windowed}
 
 -- the keys of segments, in two parts

@@ -6,7 +6,7 @@ use native.Mathlib.Omega.{arith}
 use lib.Dec.{ltb}
 use lib.ListN.{length, getD}
 use Rattle.lists.proofs.Members.{at-mem}
-use Rattle.lists.proofs.Only.{only-length}
+use Rattle.lists.proofs.Filtered.{only-length}
 use Rattle.slots.specs.declared.Place.{Place}
 use Rattle.slots.specs.Segments.{Segments}
 use Rattle.slots.specs.Keys.{Rising, below}

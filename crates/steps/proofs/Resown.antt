@@ -17,8 +17,8 @@ use Rattle.rules.specs.declared.Request.{Request}
 use Rattle.rules.specs.Placing.{Outcome, accept, outcome}
 use Rattle.rules.specs.Checks.{sharesOf}
 use Rattle.rules.specs.Calls.{roomOf}
-use Rattle.rules.proofs.Table.{lawful}
-use Rattle.rules.proofs.Good.{Good, good-next}
+use Rattle.rules.proofs.Sharing.Table.{lawful}
+use Rattle.rules.proofs.Requests.StaysGood.{Good, good-next}
 use Rattle.steps.specs.declared.Effect.the-variants.{Done}
 use Rattle.steps.specs.Stepped.{Valid, Steps}
 use Rattle.steps.proofs.FromValid.{height-valid, ends-valid, good-valid}

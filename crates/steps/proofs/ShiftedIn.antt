@@ -25,8 +25,8 @@ use Rattle.rules.specs.declared.Request.the-variants.{Insert}
 use Rattle.rules.specs.Placing.{accept, home, putIn, outcome}
 use Rattle.rules.specs.Checks.{sharesOf}
 use Rattle.rules.specs.Calls.{roomOf}
-use Rattle.rules.proofs.OutcomeCases.{length-keys-put, insert-shifted}
-use Rattle.rules.proofs.Unswept.{unswept-insert}
+use Rattle.rules.proofs.Requests.OutcomeCases.{length-keys-put, insert-shifted}
+use Rattle.rules.proofs.Sweeping.Unswept.{unswept-insert}
 use Rattle.steps.specs.declared.Effect.the-variants.{Over, Done}
 use Rattle.steps.specs.Stepped.{Inserting, idle, Steps}
 use Rattle.steps.proofs.FromValid.{ends-valid, good-valid, shows-valid, some-valid, small-valid, keys-valid, few-valid}

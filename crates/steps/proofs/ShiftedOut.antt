@@ -27,8 +27,8 @@ use Rattle.rules.specs.Shares.{shares, floor}
 use Rattle.rules.specs.Placing.{accept, cutFrom, deleteLevel, outcome}
 use Rattle.rules.specs.Checks.{sharesOf}
 use Rattle.rules.specs.Calls.{roomOf}
-use Rattle.rules.proofs.OutcomeCases.{length-keys-cut, delete-stays}
-use Rattle.rules.proofs.Unswept.{unswept-delete}
+use Rattle.rules.proofs.Requests.OutcomeCases.{length-keys-cut, delete-stays}
+use Rattle.rules.proofs.Sweeping.Unswept.{unswept-delete}
 use Rattle.steps.specs.declared.Effect.the-variants.{Over, Done}
 use Rattle.steps.specs.Stepped.{Deleting, Unswept, idle, Steps}
 use Rattle.steps.proofs.FromValid.{good-valid, shows-valid, some-valid, small-valid, keys-valid}

@@ -16,7 +16,7 @@ use Rattle.forecast.specs.Steps.{retargeted}
 use Rattle.rules.specs.declared.Request.{Request}
 use Rattle.rules.specs.Placing.{Outcome, refusedBy, accept}
 use Rattle.rules.specs.Calls.{roomOf}
-use Rattle.rules.proofs.Requests.{lent}
+use Rattle.rules.proofs.Requests.SingleCalls.{lent}
 use Rattle.steps.specs.declared.Effect.the-variants.{Over, Done}
 use Rattle.steps.specs.declared.Step.{Step}
 use Rattle.steps.specs.Stepped.{idle, effectOf, Stepped, doneBy, stepOf, Steps}

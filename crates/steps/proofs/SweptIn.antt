@@ -29,14 +29,14 @@ use Rattle.rules.specs.Placing.{Outcome, accept, home, putIn, chosen, insertLev
 use Rattle.rules.specs.Readings.{Limits, Smallest}
 use Rattle.rules.specs.Checks.{sharesOf}
 use Rattle.rules.specs.Calls.{roomOf}
-use Rattle.rules.proofs.Table.{lawful, ends}
-use Rattle.rules.proofs.Climb.{climb-is}
-use Rattle.rules.proofs.Good.{Good}
-use Rattle.rules.proofs.Sizes.{insert-always-finds}
-use Rattle.rules.proofs.SweptWindow.{home-in, sweep-put, fresh-window, count-put}
-use Rattle.rules.proofs.OutcomeCases.{insert-swept}
-use Rattle.rules.proofs.MoveBound.{length-insert}
-use Rattle.rules.proofs.Weighing.{noted-good, front-ruled, fitting-noted}
+use Rattle.rules.proofs.Sharing.Table.{lawful, ends}
+use Rattle.rules.proofs.Sharing.Climb.{climb-is}
+use Rattle.rules.proofs.Requests.StaysGood.{Good}
+use Rattle.rules.proofs.Sweeping.Sizes.{insert-always-finds}
+use Rattle.rules.proofs.Sweeping.SweptWindow.{home-in, sweep-put, fresh-window, count-put}
+use Rattle.rules.proofs.Requests.OutcomeCases.{insert-swept}
+use Rattle.rules.proofs.Requests.MoveBound.{length-insert}
+use Rattle.rules.proofs.Sharing.Weighing.{noted-good, front-ruled, fitting-noted}
 use Rattle.sharing.specs.declared.Climb.{Climb}
 use Rattle.sharing.specs.Climbs.{Climbed}
 use Rattle.steps.specs.declared.Effect.the-variants.{Over, Done}

@@ -27,13 +27,13 @@ use Rattle.rules.specs.Placing.{Outcome, accept, cutFrom, chosen, deleteLevel, 
 use Rattle.rules.specs.Readings.{Limits, Smallest}
 use Rattle.rules.specs.Checks.{sharesOf}
 use Rattle.rules.specs.Calls.{roomOf}
-use Rattle.rules.proofs.Table.{ends}
-use Rattle.rules.proofs.Climb.{climb-is}
-use Rattle.rules.proofs.Good.{Good}
-use Rattle.rules.proofs.SweptWindow.{here-in, sweep-cut, there-window, length-cut-in, count-cut}
-use Rattle.rules.proofs.OutcomeCases.{delete-swept}
-use Rattle.rules.proofs.MoveBound.{length-delete}
-use Rattle.rules.proofs.Weighing.{dropped-good, front-ruled, fitting-dropped}
+use Rattle.rules.proofs.Sharing.Table.{ends}
+use Rattle.rules.proofs.Sharing.Climb.{climb-is}
+use Rattle.rules.proofs.Requests.StaysGood.{Good}
+use Rattle.rules.proofs.Sweeping.SweptWindow.{here-in, sweep-cut, there-window, length-cut-in, count-cut}
+use Rattle.rules.proofs.Requests.OutcomeCases.{delete-swept}
+use Rattle.rules.proofs.Requests.MoveBound.{length-delete}
+use Rattle.rules.proofs.Sharing.Weighing.{dropped-good, front-ruled, fitting-dropped}
 use Rattle.sharing.specs.declared.Climb.{Climb}
 use Rattle.sharing.specs.Climbs.{Climbed}
 use Rattle.steps.specs.declared.Effect.the-variants.{Over, Done}

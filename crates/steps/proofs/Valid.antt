@@ -12,8 +12,8 @@ use Rattle.slots.proofs.Heights.{height-cases}
 use Rattle.slots.proofs.Render.{sizes-segments}
 use Rattle.rules.specs.Shares.{capacity}
 use Rattle.rules.specs.Checks.{sharesOf, checkList}
-use Rattle.rules.proofs.Table.{ends}
-use Rattle.rules.proofs.Checked.{Passed, passed, proper-segments, slots-rendered}
+use Rattle.rules.proofs.Sharing.Table.{ends}
+use Rattle.rules.proofs.Requests.Checked.{Passed, passed, proper-segments, slots-rendered}
 
 -- slots of any height hold keys up to half of their number
 pub capacity-half : (slots : List ℕ) → heightOf (length slots) ≢ 0 → capacity (sharesOf slots) ≡ length slots / 2

@@ -24,8 +24,8 @@ use Rattle.rules.specs.Shares.{cellsOf}
 use Rattle.rules.specs.Placing.{Outcome, outcome, refused}
 use Rattle.rules.specs.Checks.{sharesOf, checkList, check}
 use Rattle.rules.specs.Calls.{Called, roomOf, unchanged, changed, request, Worked, stoppedAtOnce, run}
-use Rattle.rules.proofs.Checked.{passed, both-pass}
-use Rattle.rules.proofs.Runs.{run-refused}
+use Rattle.rules.proofs.Requests.Checked.{passed, both-pass}
+use Rattle.rules.proofs.Running.Runs.{run-refused}
 use Rattle.words.specs.Words.{saturated}
 use Rattle.words.proofs.Saturated.{fault-same, sound-same}
 

@@ -1,5 +1,5 @@
 pub mod Capped
 pub mod WordLaws
 pub mod Saturated
-pub mod Turns
+pub mod ForecastLoops
 pub mod Called

@@ -10,7 +10,7 @@ use Rattle.forecast.specs.Held.{Roomy}
 use Rattle.forecast.proofs.Stepping.{tidy-roomy}
 use Rattle.words.specs.Words.{capped, cellsIn}
 use Rattle.words.proofs.Capped.{capped-small}
-use Rattle.words.proofs.Turns.{field, read-turn, read-end}
+use Rattle.words.proofs.ForecastLoops.{field, read-turn, read-end}
 use Rattle.words.proofs.read_forecast.Statement.{statement}
 use Rattle.words.proofs.read_forecast.Tie as tie
 

@@ -7,7 +7,7 @@ use lib.ListN.{length, length-set}
 use Rattle.lists.proofs.Overwritten.{written}
 use Rattle.forecast.specs.Held.{Roomy}
 use Rattle.words.specs.Words.{forecastWords}
-use Rattle.words.proofs.Turns.{write-start, write-turn, write-end}
+use Rattle.words.proofs.ForecastLoops.{write-start, write-turn, write-end}
 use Rattle.words.proofs.write_forecast.Statement.{statement}
 use Rattle.words.proofs.write_forecast.Tie as tie
 

@@ -12,7 +12,7 @@ use Rattle.slots.proofs.Tallies.{shown-within}
 use Rattle.rules.specs.Checks.{checkList}
 use Rattle.steps.proofs.Valid.{shows-passed, long-passed}
 use Rattle.steps.proofs.Numbers.{list-small}
-use Rattle.list.proofs.Above.{held-there, above-absent, above-present, at-present, wrote-admits, refused-admits}
+use Rattle.list.proofs.KeysAbove.{held-there, above-absent, above-present, at-present, wrote-admits, refused-admits}
 use Rattle.list.proofs.calls.scan.Statement.{statement}
 use Rattle.list.proofs.calls.scan.Tie as tie
 

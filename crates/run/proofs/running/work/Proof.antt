@@ -6,7 +6,7 @@ use native.Mathlib.Omega.{arith}
 use lib.ListN.{length}
 use Rattle.forecast.specs.Held.{Roomy}
 use Rattle.run.specs.declared.Tally.{Tally}
-use Rattle.run.proofs.Going.{Going, going-start, T-false, ends-whole, ends-bad, ends-over, small, goes-on}
+use Rattle.run.proofs.MidRun.{Going, going-start, T-false, ends-whole, ends-bad, ends-over, small, goes-on}
 use borrow.Author.Needs.{needs}
 use Rattle.run.proofs.running.work.Statement.{statement}
 use Rattle.run.proofs.running.work.Tie as tie

@@ -4,7 +4,7 @@ use Prim.Native.Nat.{_+_, _-_, _/_, _≤_, _<_}
 use native.Mathlib.Omega.{arith}
 use lib.ListN.{length, take, getD}
 use lib.Seq.{getD-take, length-take-le}
-use Rattle.lists.proofs.Only.{only-length}
+use Rattle.lists.proofs.Filtered.{only-length}
 use lib.Dec.{ltb}
 use Rattle.slots.specs.Keys.{Rising, below}
 use Rattle.slots.proofs.Halving.{below-place, past-below}

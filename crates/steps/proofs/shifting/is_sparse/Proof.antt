@@ -4,7 +4,7 @@ use Prim.Native.Nat.{ℕ, _*_}
 use native.Mathlib.Nat.{mul-comm}
 use lib.Dec.{ltb}
 use Rattle.rules.specs.Shares.{shares, floor}
-use Rattle.rules.proofs.Table.{ends}
+use Rattle.rules.proofs.Sharing.Table.{ends}
 use borrow.Author.Needs.{needs}
 use Rattle.steps.proofs.shifting.is_sparse.Statement.{statement}
 use Rattle.steps.proofs.shifting.is_sparse.Tie as tie

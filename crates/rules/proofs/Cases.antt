@@ -1,0 +1,4 @@
+-- Computed cases: document 01's sums and our own.
+pub mod Sums
+pub mod OwnCases
+pub mod RefusalCases

@@ -1,0 +1,6 @@
+-- Demand 1: rows and their tests, in order, and what a refused call leaves.
+pub mod Refused
+pub mod RowsInOrder
+pub mod Rows
+pub mod Row4
+pub mod Numbers

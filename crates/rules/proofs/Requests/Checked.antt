@@ -1,0 +1,147 @@
+-- What passes the check is good and is what its slots and cells show; what is good, written out, passes the check.
+use mathlib.Core.Path.{_≡_, refl, ap, _∙_}
+use mathlib.Core.Bool.{Bool, true, false, not}
+use mathlib.Core.Logic.{inl, inr, _≢_}
+use mathlib.Core.List.{List}
+use Prim.Native.Nat.{ℕ, _*_, _^_, _≤_}
+use native.Mathlib.Omega.{arith}
+use lib.Dec.{T, ltb, eqb, eqb→eq, nltb→le}
+use borrow.Author.Tests.{le-ltb, ne-eqb}
+use lib.ListN.{length}
+use Rattle.lists.specs.Choice.{if_then_else_}
+use Rattle.lists.specs.Lists.{All}
+use Rattle.lists.proofs.Tests.{neqb→ne, is-true}
+use Rattle.slots.specs.Segments.{keys, live, heightOf, segmentsOf, render}
+use Rattle.slots.specs.Orders.{orderOf, isKept}
+use Rattle.slots.proofs.Heights.{height-is, height-cases}
+use Rattle.slots.proofs.Orders.{Ordered, Solid, kept→}
+use Rattle.slots.proofs.Render.{keys-segments, length-segments, sizes-segments, listed-segments, render-segments, length-render, live-render, segments-render, kept-render}
+use Rattle.forecast.specs.declared.Forecast.{Forecast}
+use Rattle.forecast.specs.Cells.{usedCells, forecastOf}
+use Rattle.forecast.specs.Faults.{faultOf, isSound}
+use Rattle.forecast.proofs.Laws.{used-forecastOf}
+use Rattle.forecast.proofs.Faults.{sound-ruled, sound-whole, ruled-sound}
+use Rattle.rules.specs.Shares.{shares, capacity, cellsOf}
+use Rattle.rules.specs.Placing.{Room}
+use Rattle.rules.specs.Checks.{sharesOf, checkList, check}
+use Rattle.rules.specs.Calls.{roomOf}
+use Rattle.forecast.specs.Held.{Roomy}
+use Rattle.rules.specs.Readings.{Proper}
+use Rattle.rules.proofs.Sharing.Table.{ends}
+use Rattle.rules.proofs.Requests.StaysGood.{Good}
+
+-- WHAT PASSES
+pub record Passed (slots : List ℕ) : Type 0 where
+  pub from : 1 ≤ heightOf (length slots)
+  pub to : heightOf (length slots) ≤ 6
+  pub number : length slots ≡ 64 * 2 ^ heightOf (length slots)
+  pub ordered : Ordered slots
+  pub solid : Solid slots
+  pub room : length (live slots) ≤ capacity (sharesOf slots)
+
+pub passed : (slots : List ℕ) → checkList slots ≡ 0 → Passed slots
+unfolding checkList
+passed slots e =
+    go (eqb (heightOf (length slots)) 0) (neqb→ne (heightOf (length slots)) 0) (isKept (orderOf slots)) (kept→ slots)
+    (ltb (capacity (sharesOf slots)) (length (live slots))) (nltb→le _ _) e
+  where
+    go : (a : Bool) → (T (not a) → heightOf (length slots) ≢ 0) → (b : Bool) → (T b → Ordered slots × Solid slots)
+        → (c : Bool) → (T (not c) → length (live slots) ≤ capacity (sharesOf slots)) → _≡_ {A = ℕ} (if a then 1 else if not b then 2 else if c then 3 else 0) 0 → Passed slots
+    go true p b q c r e = absurd (omega arith)
+    go false p false q c r e = absurd (omega arith)
+    go false p true q true r e = absurd (omega arith)
+    go false p true q false r e =
+        elim (height-cases (length slots)) [
+          | inl z ↦ absurd (p tt (z .0))
+          | inr z ↦ record { from = z .0; to = z .1; number = z .2; ordered = q tt .0; solid = q tt .1; room = r tt }
+        ]
+
+-- list and forecast
+pub both-pass : (slots : List ℕ) (F : Forecast) → check slots F ≡ 0 → (checkList slots ≡ 0) × T (isSound (faultOf (cellsOf (sharesOf slots)) (segmentsOf slots) F))
+unfolding check
+both-pass slots F e = go (eqb (checkList slots) 0) (eqb→eq _ _) (neqb→ne _ _) (isSound (faultOf (cellsOf (sharesOf slots)) (segmentsOf slots) F)) e
+  where
+    go : (a : Bool) → (T a → checkList slots ≡ 0) → (T (not a) → checkList slots ≢ 0) → (b : Bool) → _≡_ {A = ℕ} (if not a then checkList slots else if not b then 4 else 0) 0
+        → (checkList slots ≡ 0) × T b
+    go true p q true e = (p tt, tt)
+    go true p q false e = absurd (omega arith)
+    go false p q b e = absurd (q tt e)
+
+pub list-passes : (slots : List ℕ) (F : Forecast) → check slots F ≡ 0 → checkList slots ≡ 0
+list-passes slots F e = both-pass slots F e .0
+
+module _ (slots : List ℕ) (P : Passed slots) where
+  pub proper-segments : Proper (sharesOf slots) (segmentsOf slots)
+  proper-segments = record {
+    number = length-segments slots (2 ^ heightOf (length slots)) (P .number);
+    listed = listed-segments slots (2 ^ heightOf (length slots)) (P .number) (P .ordered);
+  }
+
+  pub keys-shown : keys (segmentsOf slots) ≡ live slots
+  keys-shown = keys-segments slots (2 ^ heightOf (length slots)) (P .number)
+
+  pub slots-rendered : render 0 (segmentsOf slots) ≡ slots
+  slots-rendered = render-segments slots (2 ^ heightOf (length slots)) (P .number) (P .solid)
+
+module _ (slots : List ℕ) (F : Forecast) (e : check slots F ≡ 0) where
+  pub checked : (1 ≤ heightOf (length slots)) × (heightOf (length slots) ≤ 6) × Good (sharesOf slots) (roomOf slots F)
+  checked = (
+    passed slots (both-pass slots F e .0) .from,
+    passed slots (both-pass slots F e .0) .to,
+    record {
+      proper = proper-segments slots p;
+      sizes = λ x m. rw (ends (heightOf (length slots)) (p .from) (p .to) .0) (sizes-segments slots (2 ^ heightOf (length slots)) (p .number) x m);
+      room = rw (keys-shown slots p) (p .room);
+      ruled = sound-ruled (cellsOf (sharesOf slots)) (segmentsOf slots) F (both-pass slots F e .1) .0;
+      placed = sound-ruled (cellsOf (sharesOf slots)) (segmentsOf slots) F (both-pass slots F e .1) .1;
+    },
+  )
+    where
+      p : Passed slots
+      p = passed slots (both-pass slots F e .0)
+
+  pub slots-shown : render 0 (segmentsOf slots) ≡ slots
+  slots-shown = slots-rendered slots (passed slots (both-pass slots F e .0))
+
+  pub forecast-shown : Roomy F → forecastOf (usedCells F) ≡ F
+  forecast-shown r =
+      sound-whole (cellsOf (sharesOf slots)) (segmentsOf slots) F (both-pass slots F e .1) r (omega (arith, passed slots (both-pass slots F e .0) .to))
+
+-- WHAT IS GOOD
+module _ (h : ℕ) (from : 1 ≤ h) (to : h ≤ 6) (R : Room) (G : Good (shares h) R) where
+  fits : All (λ x. length x ≤ 64) (R .segments)
+  fits x m = rw (ends h from to .0) at (G .sizes x m)
+
+  pub length-good : length (render 0 (R .segments)) ≡ 64 * 2 ^ h
+  length-good = length-render 0 (R .segments) fits ∙ ap (λ (n : ℕ). 64 * n) (G .proper .number)
+
+  pub height-render : heightOf (length (render 0 (R .segments))) ≡ h
+  height-render = ap heightOf length-good ∙ height-is h from to
+
+  pub room-render : roomOf (render 0 (R .segments)) (forecastOf (R .cells)) ≡ R
+  room-render = λ i. record {
+    segments = segments-render (R .segments) fits (G .proper .listed .live) i;
+    cells = used-forecastOf (R .cells) i;
+  }
+
+  pub list-render : checkList (render 0 (R .segments)) ≡ 0
+  unfolding checkList
+  list-render =
+      rw (
+        height-render,
+        ne-eqb h 0 (λ e. absurd (omega arith)),
+        is-true (isKept (orderOf (render 0 (R .segments)))) (kept-render (R .segments) fits (G .proper .listed)),
+        live-render (R .segments) (G .proper .listed .live),
+        le-ltb (capacity (shares h)) (length (keys (R .segments))) (G .room),
+      ) refl
+
+  pub check-render : check (render 0 (R .segments)) (forecastOf (R .cells)) ≡ 0
+  unfolding check
+  check-render =
+      rw (
+        list-render,
+        height-render,
+        segments-render (R .segments) fits (G .proper .listed .live),
+        is-true (isSound (faultOf (cellsOf (shares h)) (R .segments) (forecastOf (R .cells))))
+            (ruled-sound (cellsOf (shares h)) (R .segments) (R .cells) (omega arith) (G .ruled) (G .placed)),
+      ) refl

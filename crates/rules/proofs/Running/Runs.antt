@@ -1,0 +1,81 @@
+-- A run over bytes: what it counts, where it stops, and that it leaves what the run over the bytes before its stop leaves.
+use mathlib.Core.Path.{_≡_, refl, ap, _∙_}
+use mathlib.Core.List.{List}
+use Prim.Native.Nat.{ℕ, _*_, _≤_, _<_}
+use native.Mathlib.Nat.{zero-add}
+use native.Mathlib.Decide.{decLt}
+use native.Mathlib.Omega.{arith}
+use lib.ListN.{length, take}
+use lib.Seq.{length-take-le}
+use borrow.Author.Tests.{ne-eqb}
+use Rattle.forecast.specs.declared.Forecast.{Forecast}
+use Rattle.rules.specs.declared.Request.{Request}
+use Rattle.rules.specs.declared.Totals.{Totals}
+use Rattle.rules.specs.Shares.{Shares}
+use Rattle.rules.specs.Placing.{Room}
+use Rattle.rules.specs.Checks.{sharesOf, check}
+use Rattle.rules.specs.Runs.{recordsOf, Tally, nothing, Ran, stopped, work, ran}
+use Rattle.rules.specs.Calls.{roomOf, worked, run}
+use Rattle.rules.specs.Demand1.{RunRefused, RunStops}
+use Rattle.rules.proofs.Running.Records.{byte-of-record, record-of-byte, bytes-of-good, records-take}
+use Rattle.rules.proofs.Running.RequestsWorked.{Works, works, tallies-worked, tallies-place}
+
+-- refused by its check
+pub run-refused : RunRefused
+unfolding run
+run-refused slots F bytes allowance T n = rw (ne-eqb (check slots F) 0 n)
+
+-- or it works the records
+pub run-checked : (slots : List ℕ) (F : Forecast) (bytes : List ℕ) (allowance : ℕ) (T : Totals) → check slots F ≡ 0
+    → run slots F bytes allowance T ≡ worked T (ran (sharesOf slots) allowance bytes (roomOf slots F))
+unfolding run
+run-checked slots F bytes allowance T c = rw c
+
+module _ (S : Shares) (allowance : ℕ) (bytes : List ℕ) (R : Room) where
+  pub ran-works : Works S allowance (recordsOf bytes) R nothing (ran S allowance bytes R)
+  unfolding ran
+  ran-works = works S allowance (recordsOf bytes) R nothing (omega arith)
+
+  -- the number of records worked
+  abbrev pub done : ℕ
+  done = ran-works .n
+
+  pub length-done : length (take done (recordsOf bytes)) ≡ done
+  length-done = length-take-le done (recordsOf bytes) (ran-works .fits)
+
+  pub done-worked : ran S allowance bytes R .tally .worked ≡ done
+  done-worked =
+      ap (λ (t : Tally). t .worked) (ran-works .tally) ∙ tallies-worked S (take done (recordsOf bytes)) R nothing ∙ zero-add _ ∙ length-done
+
+  pub done-place : ran S allowance bytes R .tally .place ≡ 11 * done
+  done-place =
+      ap (λ (t : Tally). t .place) (ran-works .tally) ∙ tallies-place S (take done (recordsOf bytes)) R nothing ∙ zero-add _ ∙ ap (λ (n : ℕ). 11 * n) length-done
+
+  -- they stand in the bytes before its place
+  pub done-bytes : 11 * done ≤ length bytes
+  done-bytes = bytes-of-good done bytes (ran-works .fits) (ran-works .good)
+
+  -- a run that stops before the last record stops inside the bytes; one that works them all, at their end
+  pub stops-inside : done < length (recordsOf bytes) → ran S allowance bytes R .tally .place < length bytes
+  stops-inside h = omega (arith, done-place, byte-of-record done bytes h)
+
+  pub ends-whole : done ≡ length (recordsOf bytes) → ran S allowance bytes R .tally .place ≡ length bytes
+  ends-whole e = go (decLt (11 * done) (length bytes))
+    where
+      go : Dec (11 * done < length bytes) → ran S allowance bytes R .tally .place ≡ length bytes
+      go (yes h) = absurd (omega (arith, record-of-byte done bytes h))
+      go (no h) = omega (arith, done-place, done-bytes)
+
+  -- the run over just those bytes ends with 0 and leaves the same
+  pub ran-again : ran S allowance (take (ran S allowance bytes R .tally .place) bytes) R ≡ stopped 0 (ran S allowance bytes R .room) (ran S allowance bytes R .tally)
+  unfolding ran
+  ran-again =
+      ap (λ (p : ℕ). ran S allowance (take p bytes) R) done-place
+      ∙ ap (λ (qs : List Request). work S allowance qs R nothing) (records-take done bytes done-bytes) ∙ ran-works .again
+
+-- a run that stops leaves all as the run over the bytes before its place, which ends with 0
+pub run-stops : RunStops
+run-stops slots F bytes allowance T c =
+    let r : Ran = ran (sharesOf slots) allowance bytes (roomOf slots F) in
+    rw (run-checked slots F bytes allowance T c, run-checked slots F (take (r .tally .place) bytes) allowance T c, ran-again (sharesOf slots) allowance bytes (roomOf slots F))
+    (record { stop = refl; slots = refl; forecast = refl; totals = refl; worked = refl; refused = refl; moves = refl; place = refl })

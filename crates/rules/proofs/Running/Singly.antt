@@ -1,0 +1,173 @@
+-- A run is its single requests one after the other, keeps a list valid, and stops as the rows tell.
+use mathlib.Core.Path.{_≡_, refl, sym, ap, ap₂, _∙_}
+use mathlib.Core.Bool.{Bool, true, false, not}
+use mathlib.Core.Logic.{_≢_}
+use mathlib.Core.List.{List, [], _∷_}
+use Prim.Native.Nat.{ℕ, _+_, _*_, _≤_}
+use lib.Dec.{T, ltb, eqb}
+use lib.ListN.{length, take}
+use Rattle.lists.specs.Choice.{if_then_else_}
+use Rattle.lists.proofs.Tests.{neqb→ne}
+use Rattle.slots.specs.Segments.{heightOf, render}
+use Rattle.forecast.specs.declared.Forecast.{Forecast}
+use Rattle.forecast.specs.Cells.{forecastOf}
+use Rattle.rules.specs.declared.Request.{Request}
+use Rattle.rules.specs.declared.Totals.{Totals}
+use Rattle.rules.specs.Shares.{Shares, shares}
+use Rattle.rules.specs.Placing.{Room, Outcome, outcome}
+use Rattle.rules.specs.Checks.{sharesOf, check}
+use Rattle.rules.specs.Runs.{Tally, nothing, one, tallied, recordsOf, Ran, ran, added}
+use Rattle.rules.specs.Calls.{roomOf, Called, unchanged, changed, request, Worked, worked}
+use Rattle.rules.specs.Rows.{Tells, row9, row10}
+use Rattle.rules.specs.History.{after}
+use Rattle.forecast.specs.Held.{Roomy}
+use Rattle.rules.specs.Demand1.{Series, next, singly, begin, Equals, RunTells, RunIsSingly, RunKeeps}
+use Rattle.rules.proofs.Sharing.Table.{lawful}
+use Rattle.rules.proofs.Requests.Accepted.{refused-is}
+use Rattle.rules.proofs.Requests.StaysGood.{Good, good-next}
+use Rattle.rules.proofs.Requests.Checked.{checked, slots-shown, forecast-shown, height-render, room-render, check-render}
+use Rattle.rules.proofs.Running.RequestsWorked.{tallies}
+use Rattle.rules.proofs.Running.Runs.{run-checked, ran-works, done, length-done, done-worked, done-place}
+use Rattle.rules.proofs.Running.StopNumbers.{ran-tells, ran-ends}
+
+-- Slots and forecast that show a room, with what a series of requests has counted.
+abbrev seriesOf : Room → Tally → Series
+seriesOf R t = record {
+  slots = render 0 (R .segments);
+  forecast = forecastOf (R .cells);
+  refused = t .refused;
+  moves = t .moves;
+  sweeps = t .sweeps;
+}
+
+-- A single call on slots and forecast, by the number n that their check gives and what the rules make of the request.
+abbrev called : List ℕ → Forecast → ℕ → Outcome → Called
+called slots F n o =
+    if not (eqb n 0) then unchanged slots F n
+    else if not (eqb (o .answer .number) 0) then unchanged slots F (o .answer .number)
+    else changed o
+
+-- where they show R and pass, it leaves what the rules say, refused or not
+called-is : (S : Shares) (q : Request) (R : Room) → called (render 0 (R .segments)) (forecastOf (R .cells)) 0 (outcome S q R) ≡ changed (outcome S q R)
+called-is S q R = go (eqb (outcome S q R .answer .number) 0) (neqb→ne _ _)
+  where
+    go : (b : Bool) → (T (not b) → outcome S q R .answer .number ≢ 0)
+        → (if not b then unchanged (render 0 (R .segments)) (forecastOf (R .cells)) (outcome S q R .answer .number) else changed (outcome S q R)) ≡ changed (outcome S q R)
+    go true n = refl
+    go false n = sym (ap changed (refused-is S q R (n tt)))
+
+module _ (h : ℕ) (lo : 1 ≤ h) (hi : h ≤ 6) where
+  good-after : (qs : List Request) (R : Room) → Good (shares h) R → Good (shares h) (after (shares h) qs R)
+  good-after [] R g = g
+  good-after (q ∷ qs) R g = good-after qs (outcome (shares h) q R .room) (good-next (shares h) (lawful h lo hi) q R g)
+
+  module _ (R : Room) (g : Good (shares h) R) where
+    abbrev slots : List ℕ
+    slots = render 0 (R .segments)
+
+    abbrev forecast : Forecast
+    forecast = forecastOf (R .cells)
+
+    -- what a request finds in slots and forecast that show R
+    found : (q : Request) → outcome (sharesOf slots) q (roomOf slots forecast) ≡ outcome (shares h) q R
+    found q = ap₂ {C = Outcome} (λ (k : ℕ) (X : Room). outcome (shares k) q X) (height-render h lo hi R g) (room-render h lo hi R g)
+
+    -- a single call does what the rules say
+    pub request-is : (q : Request) → request q slots forecast ≡ changed (outcome (shares h) q R)
+    unfolding request
+    request-is q = ap₂ (called slots forecast) (check-render h lo hi R g) (found q) ∙ called-is (shares h) q R
+
+    next-is : (q : Request) (t : Tally) → next q (seriesOf R t) ≡ seriesOf (outcome (shares h) q R .room) (tallied (outcome (shares h) q R) t)
+    next-is q t = λ i. record {
+      slots = request-is q i .slots;
+      forecast = request-is q i .forecast;
+      refused = t .refused + one (ltb 0 (request-is q i .answer .number));
+      moves = t .moves + request-is q i .answer .moves;
+      sweeps = t .sweeps + one (found q i .swept);
+    }
+
+  singly-is : (qs : List Request) (R : Room) (t : Tally) → Good (shares h) R
+      → singly qs (seriesOf R t) ≡ seriesOf (after (shares h) qs R) (tallies (shares h) qs R t)
+  singly-is [] R t g = refl
+  singly-is (q ∷ qs) R t g =
+      ap {B = Series} (λ s. singly qs s) (next-is R g q t) ∙ singly-is qs (outcome (shares h) q R .room) (tallied (outcome (shares h) q R) t) (good-next (shares h) (lawful h lo hi) q R g)
+
+module _ (slots : List ℕ) (F : Forecast) (bytes : List ℕ) (allowance : ℕ) (T : Totals) (c : check slots F ≡ 0) where
+  abbrev h : ℕ
+  h = heightOf (length slots)
+
+  abbrev R : Room
+  R = roomOf slots F
+
+  abbrev r : Ran
+  r = ran (shares h) allowance bytes R
+
+  -- the requests that it works
+  abbrev ds : List Request
+  ds = take (done (shares h) allowance bytes R) (recordsOf bytes)
+
+  lo : 1 ≤ h
+  lo = checked slots F c .0
+
+  hi : h ≤ 6
+  hi = checked slots F c .1
+
+  pub good-ran : Good (shares h) (r .room)
+  good-ran = rw (ran-works (shares h) allowance bytes R .room) (good-after h lo hi ds R (checked slots F c .2))
+
+  keeps : check (worked T r .slots) (worked T r .forecast) ≡ 0
+  keeps = check-render h lo hi (r .room) good-ran
+
+  tells : Tells (row9 bytes (r .tally .place) ∷ row10 bytes allowance (worked T r) ∷ []) (r .stop)
+  tells = ran-tells (shares h) allowance bytes R T (λ q. ap (λ (d : Called). d .answer .moves) (request-is h lo hi (r .room) good-ran q))
+
+  series : Roomy F → singly ds (begin slots F) ≡ seriesOf (r .room) (r .tally)
+  series f =
+      ap {B = Series} (λ s. singly ds s) start ∙ singly-is h lo hi ds R nothing (checked slots F c .2)
+      ∙ ap₂ {C = Series} seriesOf (sym (ran-works (shares h) allowance bytes R .room)) (sym (ran-works (shares h) allowance bytes R .tally))
+    where
+      start : begin slots F ≡ seriesOf R nothing
+      start = λ i. record {
+        slots = sym (slots-shown slots F c) i;
+        forecast = sym (forecast-shown slots F c f) i;
+        refused = 0;
+        moves = 0;
+        sweeps = 0;
+      }
+
+  number : length ds ≡ r .tally .worked
+  number = length-done (shares h) allowance bytes R ∙ sym (done-worked (shares h) allowance bytes R)
+
+  equals : Equals T ds (seriesOf (r .room) (r .tally)) (worked T r)
+  equals = record {
+    number = number;
+    good = ran-works (shares h) allowance bytes R .good;
+    slots = refl;
+    forecast = refl;
+    refused = refl;
+    moves = refl;
+    place = done-place (shares h) allowance bytes R ∙ ap (λ (n : ℕ). 11 * n) (sym (length-done (shares h) allowance bytes R));
+    totals = λ i. added T (record { worked = sym number i; refused = r .tally .refused; moves = r .tally .moves; sweeps = r .tally .sweeps; place = 0 });
+  }
+
+-- a run keeps a valid list valid
+pub run-keeps : RunKeeps
+run-keeps slots F bytes allowance T c = rw (run-checked slots F bytes allowance T c) (keeps slots F bytes allowance T c)
+
+-- the stop number is as the rows tell, and the moves are within the allowance
+pub run-tells : RunTells
+run-tells slots F bytes allowance T c =
+    let S : Shares = sharesOf slots in
+    let R : Room = roomOf slots F in
+    rw (run-checked slots F bytes allowance T c)
+    (tells slots F bytes allowance T c, ran-ends S allowance bytes R, ran-works S allowance bytes R .within)
+
+-- a run does what its requests do singly
+pub run-is-singly : RunIsSingly
+run-is-singly slots F bytes allowance T f c qs e =
+    let S : Shares = sharesOf slots in
+    let R : Room = roomOf slots F in
+    let d : qs ≡ take (done S allowance bytes R) (recordsOf bytes) =
+    e ∙ ap (λ (W : Worked). take (W .reply .worked) (recordsOf bytes)) (run-checked slots F bytes allowance T c)
+    ∙ ap (λ (n : ℕ). take n (recordsOf bytes)) (done-worked S allowance bytes R) in
+    rw (run-checked slots F bytes allowance T c, d, series slots F bytes allowance T c f) (equals slots F bytes allowance T c)

@@ -1,0 +1,61 @@
+-- The plain set is a set: what it has, and what add, remove and beyond leave.
+use mathlib.Core.Path.{_≡_, sym, subst}
+use mathlib.Core.Bool.{Bool, true, false}
+use mathlib.Core.Logic.{_⊎_, inl, inr, _≢_, _↔_}
+use mathlib.Core.List.{List, [], _∷_, List·Memᴰ as Mem, List·Memᴰ·head as here, List·Memᴰ·tail as there}
+use mathlib.Core.List.{List·Memᴰ·cases-cons as mem-cases, List·Memᴰ·append-cases as in-either}
+use Prim.Native.Nat.{ℕ}
+use native.Mathlib.Omega.{arith}
+use lib.Dec.{T, ltb, eqb, lt→ltb, eqb→eq}
+use Rattle.lists.specs.Choice.{if_then_else_}
+use Rattle.lists.proofs.Tests.{tested}
+use Rattle.lists.proofs.Filtered.{mem-only}
+use Rattle.slots.specs.Keys.{Rising, member, below, cut}
+use Rattle.slots.proofs.Rising.{only-rising, put-rising, below-mem, above-mem, cut-rising, cut-mem, mem-cut}
+use Rattle.slots.proofs.Keys.{member→mem, mem→member}
+use Rattle.rules.specs.Demand2.{IsSet}
+use Rattle.rules.specs.PlainSet as set
+use Rattle.rules.proofs.Sets.SetLaws.{has-member, above-beyond, add-same, put-add, cut-remove}
+
+module _ (y : ℕ) where
+  -- the keys of a set with y added
+  abbrev Added : List ℕ → List ℕ → Type 0
+  Added ks new = (k : ℕ) → Mem k new ↔ ((k ≡ y) ⊎ Mem k ks)
+
+  added : (ks : List ℕ) → Added ks (set.add y ks)
+  added [] = λ k. (λ m. mem-cases m, λ s. elim s [ inl e ↦ here e | inr n ↦ there n ])
+  added (j ∷ ks) = go (ltb y j) (eqb y j) (eqb→eq y j) (added ks)
+    where
+      go : (b c : Bool) → (T c → y ≡ j) → Added ks (set.add y ks) → Added (j ∷ ks) (if b then y ∷ j ∷ ks else if c then j ∷ ks else j ∷ set.add y ks)
+      go true c q ih k = (λ m. mem-cases m, λ s. elim s [ inl e ↦ here e | inr n ↦ there n ])
+      go false true q ih k = (λ m. inr m, λ s. elim s [ inl e ↦ here (subst (λ z. k ≡ z) (q tt) e) | inr n ↦ n ])
+      go false false q ih k = (
+        λ m. elim (mem-cases m) [ inl e ↦ inr (here e) | inr n ↦ elim (ih k .0 n) [ inl e ↦ inl e | inr o ↦ inr (there o) ] ],
+        λ s. elim s [ inl e ↦ there (ih k .1 (inl e)) | inr n ↦ elim (mem-cases n) [ inl e ↦ here e | inr o ↦ there (ih k .1 (inr o)) ] ],
+      )
+
+  -- a rising list with y added rises
+  add-rising : (ks : List ℕ) → Rising ks → Rising (set.add y ks)
+  add-rising ks h =
+      elim (tested (member y ks)) [
+        | inl t ↦ subst Rising (sym (add-same y ks h (member→mem y ks t))) h
+        | inr t ↦ subst Rising (put-add y ks h t) (put-rising y ks h)
+      ]
+
+  -- a key taken out of a rising list is gone, the others stay
+  removed : (ks : List ℕ) → Rising ks → (k : ℕ) → Mem k (set.remove y ks) ↔ ((k ≢ y) × Mem k ks)
+  removed ks h k = rw (← cut-remove y ks h) (λ m. (other m, cut-mem y ks k m), λ p. mem-cut y ks k (p .1) (p .0))
+    where
+      other : Mem k (cut y ks) → k ≢ y
+      other m = elim (in-either (below y ks) m) [ inl n ↦ omega (arith, below-mem y ks k n .0) | inr n ↦ omega (arith, above-mem y ks k n .0) ]
+
+-- the statement of the specs, whole
+pub isSet : IsSet
+isSet = record {
+  rises = λ y ks h. (add-rising y ks h, subst Rising (cut-remove y ks h) (cut-rising y ks h));
+  has = λ y ks. (λ t. member→mem y ks (subst T (has-member y ks) t), λ m. subst T (sym (has-member y ks)) (mem→member y ks m));
+  add = λ y ks. added y ks;
+  remove = λ y ks. removed y ks;
+  beyond = λ a ks k. rw (← above-beyond a ks) (λ m. above-mem a ks k m, λ p. mem-only (λ j. ltb a j) ks k (p .1) (lt→ltb a k (p .0)));
+  rising = λ a ks h. subst Rising (above-beyond a ks) (only-rising (λ k. ltb a k) ks h);
+}

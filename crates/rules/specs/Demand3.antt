@@ -8,7 +8,7 @@ use mathlib.Core.List.{List, [], _∷_, _++_}
 use lib.Dec.{T}
 use lib.ListN.{length}
 use Rattle.lists.specs.Lists.{All}
-use Rattle.slots.specs.Segments.{keys}
+use Rattle.slots.specs.Segments.{Segments, keys}
 use Rattle.slots.specs.Windows.{start, count}
 use Rattle.rules.specs.declared.Request.{Request}
 use Rattle.rules.specs.declared.Request.the-variants.{Insert, Delete, Bad}
@@ -16,7 +16,7 @@ use Rattle.rules.specs.Shares.{Shares, Lawful, capacity}
 use Rattle.rules.specs.Placing.{Room, outcome}
 use Rattle.rules.specs.Readings.{Limits, Proper}
 use Rattle.rules.specs.PlainSet as set
-use Rattle.rules.specs.History.{Event, eventAt, falls, sweeps, someSweeps, inserts, deletes, accepted, after, events}
+use Rattle.rules.specs.History.{Event, eventAt, fallsIn, sweeps, someSweeps, inserts, deletes, accepted, Turn, events}
 
 -- FIRST PART. After a sweep, every window strictly inside the swept one holds at least the low and at most the high share of its
 -- parent's level, times its segments, whatever the forecast said.
@@ -41,26 +41,28 @@ SizesKept = (S : Shares) → Lawful S → (q : Request) (R : Room) → Proper S 
     → All (λ x. length x ≤ S .high 0) (R .segments) → length (keys (R .segments)) ≤ capacity S
     → All (λ x. length x ≤ S .high 0) (outcome S q R .room .segments) × (length (keys (outcome S q R .room .segments)) ≤ capacity S)
 
--- SECOND PART. A history: any list, requests ps before, q₀ which swept the window of level l + 1 round segment s, requests qs since which
--- did not, and the present request q, which falls in that window's half round segment s and sweeps the window.
-pub record SweptAgain (S : Shares) (R : Room) (q₀ : Request) (qs : List Request) (q : Request) (l s : ℕ) : Type 0 where
-  pub earlier : T (accepted S q₀ R)
-  pub swept : T (sweeps (suc l) s (eventAt S q₀ R))
-  pub since : T (not (someSweeps (suc l) s (events S qs (outcome S q₀ R .room))))
-  pub present : T (accepted S q (after S qs (outcome S q₀ R .room)))
-  pub half : T (falls l s (eventAt S q (after S qs (outcome S q₀ R .room))))
-  pub again : T (sweeps (suc l) s (eventAt S q (after S qs (outcome S q₀ R .room))))
+-- SECOND PART. Suppose a request falling in one half of a window sets off a sweep of that window, and the window was swept before: events
+-- in order, e₀, which swept the window of level l + 1 round segment s; es since, which did not; and the present one, e, which falls in that
+-- window's half round segment s and sweeps the window.
+pub record SweptAgain (all : List Event) (l s : ℕ) (e₀ : Event) (es : List Event) (e : Event) : Type 0 where
+  pub history : all ≡ e₀ ∷ (es ++ (e ∷ []))
+  pub earlier : T (sweeps (suc l) s e₀)
+  pub since : T (not (someSweeps (suc l) s es))
+  pub half : T (fallsIn l s e)
+  pub again : T (sweeps (suc l) s e)
 
--- Counting qs and q, that half has taken more inserts than deletes by over the gap between the two levels' high shares times its
--- segments, or more deletes than inserts by over the gap between the low shares times its segments.
-abbrev pub counted : Shares → Room → Request → List Request → Request → List Event
-counted S R q₀ qs q = events S qs (outcome S q₀ R .room) ++ (eventAt S q (after S qs (outcome S q₀ R .room)) ∷ [])
+-- The request itself counts; the one that set off the earlier sweep doesn't.
+abbrev pub counting : Event → List Event → Event → List Event
+counting e₀ es e = es ++ (e ∷ [])
 
+-- That half has taken more inserts than deletes by over the gap between the two levels' high shares times its segments, or more deletes
+-- than inserts by over the gap between the low shares times its segments.
 abbrev pub Taken : Shares → ℕ → ℕ → List Event → Type 0
 Taken S l s es =
     (deletes l s es + 2 ^ l * (S .high l - S .high (suc l)) < inserts l s es)
     ⊎ (inserts l s es + 2 ^ l * (S .low (suc l) - S .low l) < deletes l s es)
 
+-- Counting from its latest earlier sweep, with only inserts and deletes since, whatever cells each request is lent.
 abbrev pub Again : Type 0
-Again = (S : Shares) → Lawful S → (R : Room) → Proper S (R .segments) → (ps : List Request) (q₀ : Request) (qs : List Request) (q : Request) (l s : ℕ)
-    → SweptAgain S (after S ps R) q₀ qs q l s → Taken S l s (counted S (after S ps R) q₀ qs q)
+Again = (S : Shares) → Lawful S → (ss : Segments) → Proper S ss → (turns : List Turn) (l s : ℕ) (e₀ : Event) (es : List Event) (e : Event)
+    → SweptAgain (events S turns ss) l s e₀ es e → Taken S l s (counting e₀ es e)

@@ -5,8 +5,10 @@ use mathlib.Core.Option.{Option, none, some}
 use mathlib.Core.List.{List, [], _∷_}
 use lib.Dec.{leb, eqb}
 use Rattle.lists.specs.Choice.{if_then_else_}
+use Rattle.slots.specs.Segments.{Segments}
 use Rattle.slots.specs.Windows.{start}
 use Rattle.slots.specs.Keys.{segmentOf}
+use Rattle.forecast.specs.declared.Cell.{Cell}
 use Rattle.rules.specs.declared.Request.{Request}
 use Rattle.rules.specs.declared.Request.the-variants.{Insert, Delete, Bad}
 use Rattle.rules.specs.Shares.{Shares}
@@ -25,8 +27,8 @@ eventAt S (Delete y) R = record { at = segmentOf (R .segments) y; grows = false;
 eventAt S Bad R = record { at = 0; grows = false; level = none }
 
 -- It falls in every window round that segment: in the window of level l round segment s.
-abbrev pub falls : ℕ → ℕ → Event → Bool
-falls l s e = eqb (start l (e .at)) (start l s)
+abbrev pub fallsIn : ℕ → ℕ → Event → Bool
+fallsIn l s e = eqb (start l (e .at)) (start l s)
 
 -- A window counts as swept when it is the chosen one or lies inside it.
 abbrev pub sweepsAt : ℕ → ℕ → ℕ → Option ℕ → Bool
@@ -43,22 +45,26 @@ someSweeps l s (e ∷ es) = sweeps l s e || someSweeps l s es
 -- The inserts, and the deletes, that fell in a window.
 abbrev pub inserts : ℕ → ℕ → List Event → ℕ
 inserts l s [] = 0
-inserts l s (e ∷ es) = (if falls l s e && e .grows then 1 else 0) + inserts l s es
+inserts l s (e ∷ es) = (if fallsIn l s e && e .grows then 1 else 0) + inserts l s es
 
 abbrev pub deletes : ℕ → ℕ → List Event → ℕ
 deletes l s [] = 0
-deletes l s (e ∷ es) = (if falls l s e && not (e .grows) then 1 else 0) + deletes l s es
+deletes l s (e ∷ es) = (if fallsIn l s e && not (e .grows) then 1 else 0) + deletes l s es
 
--- Requests in order: what they leave, and the events of those that are accepted.
+-- A request, and the cells that it is lent. A forecast is lent by value, so each request may be lent another.
+pub record Turn : Type 0 where
+  pub request : Request
+  pub cells : List Cell
+
+abbrev pub given : Turn → Segments → Room
+given a ss = record { segments = ss; cells = a .cells }
+
+-- Requests in order, from the list ss: the events of those that are accepted. The others change nothing.
 abbrev pub accepted : Shares → Request → Room → Bool
 accepted S q R = eqb (outcome S q R .answer .number) 0
 
-abbrev pub after : Shares → List Request → Room → Room
-after S [] R = R
-after S (q ∷ qs) R = after S qs (outcome S q R .room)
-
-abbrev pub events : Shares → List Request → Room → List Event
-events S [] R = []
-events S (q ∷ qs) R =
-    let rest : List Event = events S qs (outcome S q R .room) in
-    if accepted S q R then eventAt S q R ∷ rest else rest
+abbrev pub events : Shares → List Turn → Segments → List Event
+events S [] ss = []
+events S (a ∷ turns) ss =
+    let rest : List Event = events S turns (outcome S (a .request) (given a ss) .room .segments) in
+    if accepted S (a .request) (given a ss) then eventAt S (a .request) (given a ss) ∷ rest else rest

@@ -12,4 +12,5 @@ pub mod Demand2
 pub mod Readings
 pub mod History
 pub mod Demand3
+pub mod Demand3Lent
 pub mod Sums

@@ -16,7 +16,6 @@ use Rattle.rules.specs.declared.Request.the-variants.{Insert, Bad}
 use Rattle.rules.specs.Shares.{Shares, shares}
 use Rattle.rules.specs.Placing.{Room, settled, insertLevel, insertKey, outcome}
 use Rattle.rules.specs.Runs.{isBad, Tally, nothing, tallied, Ran, stopped, work}
-use Rattle.rules.specs.History.{after}
 use Rattle.rules.proofs.Running.BadRecords.{not-bad}
 
 -- an insert of one move into an empty list, with no moves allowed: the run stops before it
@@ -46,7 +45,11 @@ module _ (S : Shares) (allowance : ℕ) where
     unfolding work
     work-on g h = rw (is-false (isBad q) g, le-ltb allowance (t .moves + outcome S q R .answer .moves) h)
 
--- what requests, one after the other, add to a tally
+-- what requests, one after the other, leave, and what they add to a tally
+abbrev pub after : Shares → List Request → Room → Room
+after S [] R = R
+after S (q ∷ qs) R = after S qs (outcome S q R .room)
+
 abbrev pub tallies : Shares → List Request → Room → Tally → Tally
 tallies S [] R t = t
 tallies S (q ∷ qs) R t = tallies S qs (outcome S q R .room) (tallied (outcome S q R) t)

@@ -19,14 +19,13 @@ use Rattle.rules.specs.Checks.{sharesOf, check}
 use Rattle.rules.specs.Runs.{Tally, nothing, one, tallied, recordsOf, Ran, ran, added}
 use Rattle.rules.specs.Calls.{roomOf, Called, unchanged, changed, request, Worked, worked}
 use Rattle.rules.specs.Rows.{Tells, row9, row10}
-use Rattle.rules.specs.History.{after}
 use Rattle.forecast.specs.Held.{Roomy}
 use Rattle.rules.specs.Demand1.{Series, next, singly, begin, Equals, RunTells, RunIsSingly, RunKeeps}
 use Rattle.rules.proofs.Sharing.Table.{lawful}
 use Rattle.rules.proofs.Requests.Accepted.{refused-is}
 use Rattle.rules.proofs.Requests.StaysGood.{Good, good-next}
 use Rattle.rules.proofs.Requests.Checked.{checked, slots-shown, forecast-shown, height-render, room-render, check-render}
-use Rattle.rules.proofs.Running.RequestsWorked.{tallies}
+use Rattle.rules.proofs.Running.RequestsWorked.{after, tallies}
 use Rattle.rules.proofs.Running.Runs.{run-checked, ran-works, done, length-done, done-worked, done-place}
 use Rattle.rules.proofs.Running.StopNumbers.{ran-tells, ran-ends}
 

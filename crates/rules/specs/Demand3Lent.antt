@@ -1,0 +1,49 @@
+-- Demand 3 of the public calls, on slots and forecasts as they are lent.
+use Prim.Native.Nat.{ℕ, suc, _<_}
+use mathlib.Core.Path.{_≡_}
+use mathlib.Core.Option.{some}
+use mathlib.Core.List.{List, [], _∷_}
+use lib.Dec.{eqb}
+use Rattle.lists.specs.Choice.{if_then_else_}
+use Rattle.slots.specs.Segments.{segmentsOf}
+use Rattle.slots.specs.Windows.{start, count}
+use Rattle.forecast.specs.declared.Forecast.{Forecast}
+use Rattle.rules.specs.declared.Request.{Request}
+use Rattle.rules.specs.Checks.{sharesOf}
+use Rattle.rules.specs.Calls.{roomOf, Called, request}
+use Rattle.rules.specs.Readings.{Limits}
+use Rattle.rules.specs.History.{Event, eventAt}
+use Rattle.rules.specs.Demand3.{SweptAgain, counting, Taken}
+
+-- The event of a request that is accepted.
+abbrev pub eventOf : Request → List ℕ → Forecast → Event
+eventOf q slots F = eventAt (sharesOf slots) q (roomOf slots F)
+
+-- FIRST PART. After a sweep, every window strictly inside the swept one holds at least the low and at most the high share of its
+-- parent's level, times its segments, whatever the forecast said.
+abbrev pub LentInside : Type 0
+LentInside = (q : Request) (slots : List ℕ) (F : Forecast) → request q slots F .answer .number ≡ 0
+    → (k : ℕ) → eventOf q slots F .level ≡ some k
+    → (j t : ℕ) → j < k → start k t ≡ start k (eventOf q slots F .at)
+    → Limits (sharesOf slots) j (suc j) (count j t (segmentsOf (request q slots F .slots)))
+
+-- SECOND PART. What is asked: an insert or a delete, with any forecast lent with it; a lookup; a scan, with the output lent.
+pub data Ask : Type 0 where
+  Change : Request → Forecast → Ask
+  Lookup : ℕ → Ask
+  Scan : ℕ → List ℕ → Ask
+
+-- The events of the accepted requests, in order. Refused ones, one whose forecast check refuses among them, count for nothing and leave
+-- the slots; so do lookups and scans.
+abbrev pub lentEvents : List Ask → List ℕ → List Event
+lentEvents [] slots = []
+lentEvents (Change q F ∷ asks) slots =
+    let c : Called = request q slots F in
+    let rest : List Event = lentEvents asks (c .slots) in
+    if eqb (c .answer .number) 0 then eventOf q slots F ∷ rest else rest
+lentEvents (Lookup y ∷ asks) slots = lentEvents asks slots
+lentEvents (Scan a out ∷ asks) slots = lentEvents asks slots
+
+abbrev pub LentAgain : Type 0
+LentAgain = (slots : List ℕ) (asks : List Ask) (l s : ℕ) (e₀ : Event) (es : List Event) (e : Event)
+    → SweptAgain (lentEvents asks slots) l s e₀ es e → Taken (sharesOf slots) l s (counting e₀ es e)

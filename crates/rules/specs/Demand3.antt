@@ -1,8 +1,8 @@
 -- Demand 3, over any lawful shares and any forecast.
 use Prim.Native.Nat.{ℕ, suc, _+_, _-_, _*_, _^_, _≤_, _<_}
 use mathlib.Core.Path.{_≡_}
-use mathlib.Core.Bool.{not}
-use mathlib.Core.Option.{some}
+use mathlib.Core.Bool.{Bool, true, false, not}
+use mathlib.Core.Option.{Option, none, some}
 use mathlib.Core.Logic.{_⊎_}
 use mathlib.Core.List.{List, [], _∷_, _++_}
 use lib.Dec.{T}
@@ -40,6 +40,14 @@ abbrev pub SizesKept : Type 0
 SizesKept = (S : Shares) → Lawful S → (q : Request) (R : Room) → Proper S (R .segments) → T (accepted S q R)
     → All (λ x. length x ≤ S .high 0) (R .segments) → length (keys (R .segments)) ≤ capacity S
     → All (λ x. length x ≤ S .high 0) (outcome S q R .room .segments) × (length (keys (outcome S q R .room .segments)) ≤ capacity S)
+
+-- A request tells that it swept, as the totals count it, exactly where a window was chosen.
+abbrev pub isChosen : Option ℕ → Bool
+isChosen none = false
+isChosen (some l) = true
+
+abbrev pub SweepsTold : Type 0
+SweepsTold = (S : Shares) (q : Request) (R : Room) → T (accepted S q R) → outcome S q R .swept ≡ isChosen (eventAt S q R .level)
 
 -- SECOND PART. Suppose a request falling in one half of a window sets off a sweep of that window, and the window was swept before: events
 -- in order, e₀, which swept the window of level l + 1 round segment s; es since, which did not; and the present one, e, which falls in that

@@ -53,6 +53,17 @@ def sequences():
     return out
 
 
+def pinned():
+    """Own cases of the rules, worked by the code."""
+    # P = 8 at height 2: an insert with 7 cells used leaves 8, and the next one 7
+    out = [command(MAKE, 256)] + up(7) + shown() + up(1, start=80) + shown() + up(1, start=90) + shown()
+    # the denominators of formula 6: a delete sweeps 43 keys, the second of weight 1 and the fifteenth of weight 5
+    out += [command(MAKE, 128)] + [command(POKE, i, 10 + 10 * i) for i in range(6)] + [command(POKE, 6, 65)]
+    out += [command(POKE, 64 + i, 70 + 10 * i) for i in range(37)]
+    out += [cell(0, 20, 0, 1), cell(1, 150, 1, 5), command(USED, 2), command(DELETE, 65)] + shown()
+    return out
+
+
 def mixed(rng, h, n):
     """Random requests, biased to a few places, with lookups and scans between."""
     out = [command(MAKE, 64 << h)]
@@ -103,7 +114,7 @@ def refusals():
 
 def commands():
     rng = random.Random(20)
-    out = sequences() + refusals()
+    out = sequences() + pinned() + refusals()
     while len(out) + 130 < MOST:
         out += mixed(rng, rng.randint(1, 6), 100)
     return out

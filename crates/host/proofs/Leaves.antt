@@ -17,7 +17,7 @@ use Rattle.rules.specs.Looking.{Found, Scanned}
 use Rattle.rules.specs.Runs.{one}
 use Rattle.rules.specs.Checks as checks
 use Rattle.rules.specs.Calls as rules
-use Rattle.rules.specs.Rows.{Row, Tells, row1, row5, row6, row7, row8}
+use Rattle.rules.specs.Rows.{Row, Tells, row1, listRows, lookupRows, insertRows, deleteRows}
 use Rattle.rules.proofs.Refusals.Numbers as below
 use Rattle.rules.proofs.Refusals.Refused.{request-refused, lookup-refused, scan-refused, make-refused}
 use Rattle.rules.proofs.Running.Runs.{run-refused}
@@ -28,7 +28,7 @@ use Rattle.host.specs.Calls.{Outcome, sized, notForecast, notTotals, sho
 use Rattle.host.specs.Refused.{Leaves, MakeLeaves, LookupLeaves, ScanLeaves, InsertLeaves, DeleteLeaves, RunLeaves}
 use Rattle.words.proofs.WordLaws.{words-again}
 use Rattle.host.proofs.TallyLaws.{totals-again}
-use Rattle.host.proofs.Numbers.{roomy, listRows, allRows, runRows, below-tells}
+use Rattle.host.proofs.Numbers.{roomy, allRows, below-tells}
 
 -- THE NUMBERS OF THE ROWS BELOW are far from 100
 abbrev Small : List Row → Type 0
@@ -63,20 +63,20 @@ make-leaves list forecast =
 pub lookup-leaves : LookupLeaves
 unfolding lookup
 lookup-leaves list key reply =
-    leaves (short reply 2) _ _ _ (small (listRows list (row5 key ∷ [])) _ (omega arith) (below.lookup-tells list key)) λ t n s.
+    leaves (short reply 2) _ _ _ (small (lookupRows list key) _ (omega arith) (below.lookup-tells list key)) λ t n s.
     ap (λ (f : Found). over (one (f .present) ∷ f .segment ∷ []) reply ∷ []) (lookup-refused list key n)
 
 pub scan-leaves : ScanLeaves
 unfolding scan
 scan-leaves list from output reply =
-    leaves (short reply 2) _ _ _ (small (listRows list []) _ (omega arith) (below.scan-tells list from output)) λ t n s.
+    leaves (short reply 2) _ _ _ (small (listRows list) _ (omega arith) (below.scan-tells list from output)) λ t n s.
     ap (λ (c : Scanned). c .output ∷ over (c .written ∷ one (c .more) ∷ []) reply ∷ []) (scan-refused list from output n)
 
 pub insert-leaves : InsertLeaves
 unfolding insert
 insert-leaves list forecast key reply =
     leaves (notForecast forecast || short reply 1) _ _ _
-    (small (allRows list forecast (row5 key ∷ row6 list key ∷ row8 list ∷ [])) _ (omega arith) (below.insert-tells list (forecastIn forecast) key (roomy forecast))) λ t n s.
+    (small (insertRows list (forecastIn forecast) key) _ (omega arith) (below.insert-tells list (forecastIn forecast) key (roomy forecast))) λ t n s.
     ap (λ (c : rules.Called). c .slots ∷ forecastWords (c .forecast) ∷ over (c .answer .moves ∷ []) reply ∷ []) (request-refused (Insert key) list (forecastIn forecast) n)
     ∙ ap (λ (ws : List ℕ). list ∷ ws ∷ over (0 ∷ []) reply ∷ []) (words-again forecast (forecast-fits forecast (neither (notForecast forecast) _ t .0)))
 
@@ -84,7 +84,7 @@ pub delete-leaves : DeleteLeaves
 unfolding delete
 delete-leaves list forecast key reply =
     leaves (notForecast forecast || short reply 2) _ _ _
-    (small (allRows list forecast (row5 key ∷ row7 list key ∷ [])) _ (omega arith) (below.delete-tells list (forecastIn forecast) key (roomy forecast))) λ t n s.
+    (small (deleteRows list (forecastIn forecast) key) _ (omega arith) (below.delete-tells list (forecastIn forecast) key (roomy forecast))) λ t n s.
     ap (λ (c : rules.Called). c .slots ∷ forecastWords (c .forecast) ∷ over (c .answer .moves ∷ one (c .answer .sparse) ∷ []) reply ∷ [])
     (request-refused (Delete key) list (forecastIn forecast) n)
     ∙ ap (λ (ws : List ℕ). list ∷ ws ∷ over (0 ∷ 0 ∷ []) reply ∷ []) (words-again forecast (forecast-fits forecast (neither (notForecast forecast) _ t .0)))
@@ -102,7 +102,7 @@ pub run-leaves : RunLeaves
 unfolding run
 run-leaves list forecast requests allowance totals reply =
     leaves (notForecast forecast || (notTotals totals || short reply 4)) _ _ _
-    (small (allRows list forecast (runRows list forecast requests allowance totals reply)) _ (omega arith) (below-tells list forecast requests allowance totals reply)) λ t n s.
+    (small (allRows list forecast requests allowance totals reply) _ (omega arith) (below-tells list forecast requests allowance totals reply)) λ t n s.
     let F = forecastIn forecast in
     let S = totalsIn totals in
     let f = forecast-fits forecast (neither (notForecast forecast) _ t .0) in

@@ -10,7 +10,7 @@ use lib.ListN.{length, drop}
 use Rattle.lists.proofs.Tests.{double-not, neqb→ne}
 use Rattle.rules.specs.Checks as checks
 use Rattle.rules.specs.Calls as rules
-use Rattle.rules.specs.Rows.{Row, Tells, row1, row2, row3, row4, row5, row6, row7, row8, row9, row10}
+use Rattle.rules.specs.Rows.{Row, Tells, row1, listRows, bothRows, lookupRows, insertRows, deleteRows, stopRows, runRows}
 use Rattle.rules.proofs.Refusals.RowsInOrder.{Decides, tells-if, tells-after}
 use Rattle.rules.proofs.Refusals.Numbers as below
 use Rattle.rules.proofs.Running.Runs.{run-refused}
@@ -47,28 +47,21 @@ pub make-tells : MakeTells
 unfolding make
 make-tells list forecast = sized-tells (notForecast forecast) (NotForecast forecast) (row1 list ∷ []) _ _ (unequal (length forecast) 37) (below.make-tells list)
 
--- what a checked call tells first
-abbrev pub listRows : List ℕ → List Row → List Row
-listRows list rs = row1 list ∷ row2 list ∷ row3 list ∷ rs
-
-abbrev pub allRows : List ℕ → List ℕ → List Row → List Row
-allRows list forecast rs = listRows list (row4 list (forecastIn forecast) ∷ rs)
-
 pub check-tells : CheckTells
 unfolding check
 check-tells list forecast =
-    sized-tells (notForecast forecast) (NotForecast forecast) (allRows list forecast []) _ _ (unequal (length forecast) 37)
+    sized-tells (notForecast forecast) (NotForecast forecast) (bothRows list (forecastIn forecast)) _ _ (unequal (length forecast) 37)
     (below.check-tells list (forecastIn forecast) (roomy forecast))
 
 pub lookup-tells : LookupTells
 unfolding lookup
 lookup-tells list key reply =
-    sized-tells (short reply 2) (length reply < 2) (listRows list (row5 key ∷ [])) _ _ (shorter (length reply) 2) (below.lookup-tells list key)
+    sized-tells (short reply 2) (length reply < 2) (lookupRows list key) _ _ (shorter (length reply) 2) (below.lookup-tells list key)
 
 pub scan-tells : ScanTells
 unfolding scan
 scan-tells list from output reply =
-    sized-tells (short reply 2) (length reply < 2) (listRows list []) _ _ (shorter (length reply) 2) (below.scan-tells list from output)
+    sized-tells (short reply 2) (length reply < 2) (listRows list) _ _ (shorter (length reply) 2) (below.scan-tells list from output)
 
 -- a forecast and a reply of n words
 both : (forecast reply : List ℕ) (n : ℕ) → Decides (notForecast forecast || short reply n) (row100 (NotForecast forecast ⊎ (length reply < n)))
@@ -77,13 +70,13 @@ both forecast reply n = either-size (notForecast forecast) (short reply n) _ _ (
 pub insert-tells : InsertTells
 unfolding insert
 insert-tells list forecast key reply =
-    sized-tells (notForecast forecast || short reply 1) (NotForecast forecast ⊎ (length reply < 1)) (allRows list forecast (row5 key ∷ row6 list key ∷ row8 list ∷ [])) _ _
+    sized-tells (notForecast forecast || short reply 1) (NotForecast forecast ⊎ (length reply < 1)) (insertRows list (forecastIn forecast) key) _ _
     (both forecast reply 1) (below.insert-tells list (forecastIn forecast) key (roomy forecast))
 
 pub delete-tells : DeleteTells
 unfolding delete
 delete-tells list forecast key reply =
-    sized-tells (notForecast forecast || short reply 2) (NotForecast forecast ⊎ (length reply < 2)) (allRows list forecast (row5 key ∷ row7 list key ∷ [])) _ _
+    sized-tells (notForecast forecast || short reply 2) (NotForecast forecast ⊎ (length reply < 2)) (deleteRows list (forecastIn forecast) key) _ _
     (both forecast reply 2) (below.delete-tells list (forecastIn forecast) key (roomy forecast))
 
 -- A RUN
@@ -91,12 +84,12 @@ module _ (list forecast requests : List ℕ) (allowance : ℕ) (totals reply : L
   abbrev W : rules.Worked
   W = rules.run list (forecastIn forecast) requests allowance (totalsIn totals)
 
-  abbrev pub runRows : List Row
-  runRows = row9 requests (W .reply .place) ∷ row10 requests allowance W ∷ []
+  abbrev pub allRows : List Row
+  allRows = runRows list (forecastIn forecast) requests allowance W
 
-  pub below-tells : Tells (allRows list forecast runRows) (W .reply .stop)
+  pub below-tells : Tells allRows (W .reply .stop)
   below-tells =
-      tells-after (allRows list forecast []) runRows (checks.check list (forecastIn forecast)) (W .reply .stop) (omega arith)
+      tells-after (bothRows list (forecastIn forecast)) (stopRows requests allowance W) (checks.check list (forecastIn forecast)) (W .reply .stop) (omega arith)
       (below.check-tells list (forecastIn forecast) (roomy forecast))
       (λ n. ap (λ (w : rules.Worked). w .reply .stop) (run-refused list (forecastIn forecast) requests allowance (totalsIn totals) n)) λ z.
       singly.run-tells list (forecastIn forecast) requests allowance (totalsIn totals) z .0
@@ -110,5 +103,5 @@ pub run-tells : RunTells
 unfolding run
 run-tells list forecast requests allowance totals reply =
     sized-tells (notForecast forecast || (notTotals totals || short reply 4)) (NotForecast forecast ⊎ ((length totals ≢ 4) ⊎ (length reply < 4)))
-    (allRows list forecast (runRows list forecast requests allowance totals reply)) _ _ (sizes list forecast requests allowance totals reply)
+    (allRows list forecast requests allowance totals reply) _ _ (sizes list forecast requests allowance totals reply)
     (below-tells list forecast requests allowance totals reply)

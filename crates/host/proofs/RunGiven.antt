@@ -14,7 +14,7 @@ use Rattle.rules.specs.Calls as rules
 use Rattle.run.specs.declared.Run.{Run}
 use Rattle.run.specs.Admits.{RunAdmits}
 use Rattle.rules.specs.Checks as checks
-use Rattle.rules.specs.Rows.{Tells, row1, row2, row3, row4, row9, row10}
+use Rattle.rules.specs.Rows.{Tells, bothRows, stopRows}
 use Rattle.rules.proofs.Refusals.Numbers as below
 use Rattle.rules.proofs.Running.Singly as singly
 use Rattle.words.specs.Words.{forecastIn, forecastWords, saturated}
@@ -40,7 +40,7 @@ module _ (list forecast requests : List ℕ) (allowance : ℕ) (totals reply : L
   late : checks.check list (forecastIn forecast) ≡ 0 → 1 ≤ W .reply .stop → W .reply .stop ≤ 4 → ⊥
   late z a b = stops (singly.run-tells list (forecastIn forecast) requests allowance (totalsIn totals) z .0)
     where
-      stops : Tells (row9 requests (W .reply .place) ∷ row10 requests allowance W ∷ []) (W .reply .stop) → ⊥
+      stops : Tells (stopRows requests allowance W) (W .reply .stop) → ⊥
       stops (inl (u, e)) = omega arith
       stops (inr (u, inl (v, e))) = omega arith
       stops (inr (u, inr (v, e))) = omega arith
@@ -49,7 +49,7 @@ module _ (list forecast requests : List ℕ) (allowance : ℕ) (totals reply : L
   early z (inl e) = z e
   early z (inr h) = gives (below.check-tells list (forecastIn forecast) (forecastIn-roomy forecast))
     where
-      gives : Tells (row1 list ∷ row2 list ∷ row3 list ∷ row4 list (forecastIn forecast) ∷ []) (checks.check list (forecastIn forecast)) → ⊥
+      gives : Tells (bothRows list (forecastIn forecast)) (checks.check list (forecastIn forecast)) → ⊥
       gives (inl (u, e)) = omega arith
       gives (inr (u, inl (v, e))) = omega arith
       gives (inr (u, inr (v, inl (x, e)))) = omega arith

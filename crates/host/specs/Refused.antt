@@ -5,7 +5,7 @@ use mathlib.Core.Logic.{_⊎_, _≢_}
 use mathlib.Core.List.{List, [], _∷_}
 use lib.ListN.{length, replicate}
 use Rattle.rules.specs.Calls as rules
-use Rattle.rules.specs.Rows.{Row, Tells, row1, row2, row3, row4, row5, row6, row7, row8, row9, row10}
+use Rattle.rules.specs.Rows.{Row, Tells, row1, listRows, bothRows, lookupRows, insertRows, deleteRows, runRows}
 use Rattle.words.specs.Words.{forecastIn}
 use Rattle.host.specs.Tallies.{totalsIn}
 use Rattle.host.specs.Calls.{Outcome, over, make, check, lookup, insert, delete, scan, run}
@@ -21,41 +21,30 @@ abbrev pub MakeTells : Type 0
 MakeTells = (list forecast : List ℕ) → Tells (row100 (NotForecast forecast) ∷ row1 list ∷ []) (make list forecast .number)
 
 abbrev pub CheckTells : Type 0
-CheckTells = (list forecast : List ℕ)
-    → Tells (row100 (NotForecast forecast) ∷ row1 list ∷ row2 list ∷ row3 list ∷ row4 list (forecastIn forecast) ∷ []) (check list forecast .number)
+CheckTells = (list forecast : List ℕ) → Tells (row100 (NotForecast forecast) ∷ bothRows list (forecastIn forecast)) (check list forecast .number)
 
 abbrev pub LookupTells : Type 0
 LookupTells = (list : List ℕ) (key : ℕ) (reply : List ℕ)
-    → Tells (row100 (length reply < 2) ∷ row1 list ∷ row2 list ∷ row3 list ∷ row5 key ∷ []) (lookup list key reply .number)
+    → Tells (row100 (length reply < 2) ∷ lookupRows list key) (lookup list key reply .number)
 
 abbrev pub ScanTells : Type 0
 ScanTells = (list : List ℕ) (from : ℕ) (output reply : List ℕ)
-    → Tells (row100 (length reply < 2) ∷ row1 list ∷ row2 list ∷ row3 list ∷ []) (scan list from output reply .number)
+    → Tells (row100 (length reply < 2) ∷ listRows list) (scan list from output reply .number)
 
 abbrev pub InsertTells : Type 0
 InsertTells = (list forecast : List ℕ) (key : ℕ) (reply : List ℕ)
-    → Tells
-    (row100 (NotForecast forecast ⊎ (length reply < 1)) ∷ row1 list ∷ row2 list ∷ row3 list ∷ row4 list (forecastIn forecast) ∷ row5 key ∷ row6 list key ∷ row8 list ∷ [])
-    (insert list forecast key reply .number)
+    → Tells (row100 (NotForecast forecast ⊎ (length reply < 1)) ∷ insertRows list (forecastIn forecast) key) (insert list forecast key reply .number)
 
 abbrev pub DeleteTells : Type 0
 DeleteTells = (list forecast : List ℕ) (key : ℕ) (reply : List ℕ)
-    → Tells
-    (row100 (NotForecast forecast ⊎ (length reply < 2)) ∷ row1 list ∷ row2 list ∷ row3 list ∷ row4 list (forecastIn forecast) ∷ row5 key ∷ row7 list key ∷ [])
-    (delete list forecast key reply .number)
+    → Tells (row100 (NotForecast forecast ⊎ (length reply < 2)) ∷ deleteRows list (forecastIn forecast) key) (delete list forecast key reply .number)
 
 -- 9 and 10 speak of the place where the run stopped.
 abbrev pub RunTells : Type 0
 RunTells = (list forecast requests : List ℕ) (allowance : ℕ) (totals reply : List ℕ)
     → Tells
     (row100 (NotForecast forecast ⊎ ((length totals ≢ 4) ⊎ (length reply < 4)))
-    ∷ row1 list
-    ∷ row2 list
-    ∷ row3 list
-    ∷ row4 list (forecastIn forecast)
-    ∷ row9 requests (rules.run list (forecastIn forecast) requests allowance (totalsIn totals) .reply .place)
-    ∷ row10 requests allowance (rules.run list (forecastIn forecast) requests allowance (totalsIn totals))
-    ∷ [])
+    ∷ runRows list (forecastIn forecast) requests allowance (rules.run list (forecastIn forecast) requests allowance (totalsIn totals)))
     (run list forecast requests allowance totals reply .number)
 
 -- WHAT A REFUSAL LEAVES: by 100 all that was lent; by 1 to 8 that too, but the listed words of the reply, which are 0.

@@ -19,39 +19,35 @@ use Rattle.rules.specs.Looking.{notFound}
 use Rattle.rules.specs.Runs.{one, recordsOf, added}
 use Rattle.rules.specs.Checks.{sharesOf, check}
 use Rattle.rules.specs.Calls.{roomOf, make, lookup, scan, request, insert, delete, unchanged, Worked, stoppedAtOnce, run}
-use Rattle.rules.specs.Rows.{Tells, NoneOf, row1, row2, row3, row4, row5, row6, row7, row8, row9, row10}
+use Rattle.rules.specs.Rows.{Tells, NoneOf, row1, listRows, bothRows, lookupRows, insertRows, deleteRows, stopRows}
 
 -- EACH NUMBER IS GIVEN EXACTLY WHEN ITS ROW APPLIES AND NONE BEFORE IT DOES
 abbrev pub MakeTells : Type 0
 MakeTells = (slots : List ℕ) → Tells (row1 slots ∷ []) (make slots .number)
 
 abbrev pub CheckTells : Type 0
-CheckTells = (slots : List ℕ) (F : Forecast) → Roomy F → Tells (row1 slots ∷ row2 slots ∷ row3 slots ∷ row4 slots F ∷ []) (check slots F)
+CheckTells = (slots : List ℕ) (F : Forecast) → Roomy F → Tells (bothRows slots F) (check slots F)
 
 -- Check gives 0 exactly when none of 1 to 4 applies.
 abbrev pub CheckPasses : Type 0
-CheckPasses = (slots : List ℕ) (F : Forecast) → Roomy F
-    → (check slots F ≡ 0) ↔ NoneOf (row1 slots ∷ row2 slots ∷ row3 slots ∷ row4 slots F ∷ [])
+CheckPasses = (slots : List ℕ) (F : Forecast) → Roomy F → (check slots F ≡ 0) ↔ NoneOf (bothRows slots F)
 
 abbrev pub LookupTells : Type 0
-LookupTells = (slots : List ℕ) (y : ℕ) → Tells (row1 slots ∷ row2 slots ∷ row3 slots ∷ row5 y ∷ []) (lookup slots y .number)
+LookupTells = (slots : List ℕ) (y : ℕ) → Tells (lookupRows slots y) (lookup slots y .number)
 
 abbrev pub ScanTells : Type 0
-ScanTells = (slots : List ℕ) (a : ℕ) (out : List ℕ) → Tells (row1 slots ∷ row2 slots ∷ row3 slots ∷ []) (scan slots a out .number)
+ScanTells = (slots : List ℕ) (a : ℕ) (out : List ℕ) → Tells (listRows slots) (scan slots a out .number)
 
 abbrev pub InsertTells : Type 0
-InsertTells = (slots : List ℕ) (F : Forecast) (y : ℕ) → Roomy F
-    → Tells (row1 slots ∷ row2 slots ∷ row3 slots ∷ row4 slots F ∷ row5 y ∷ row6 slots y ∷ row8 slots ∷ []) (insert slots F y .answer .number)
+InsertTells = (slots : List ℕ) (F : Forecast) (y : ℕ) → Roomy F → Tells (insertRows slots F y) (insert slots F y .answer .number)
 
 abbrev pub DeleteTells : Type 0
-DeleteTells = (slots : List ℕ) (F : Forecast) (y : ℕ) → Roomy F
-    → Tells (row1 slots ∷ row2 slots ∷ row3 slots ∷ row4 slots F ∷ row5 y ∷ row7 slots y ∷ []) (delete slots F y .answer .number)
+DeleteTells = (slots : List ℕ) (F : Forecast) (y : ℕ) → Roomy F → Tells (deleteRows slots F y) (delete slots F y .answer .number)
 
 -- A run is refused by 1 to 4 as check tells. Else it stops at its place by 9 or 10, or at the end of the bytes.
 abbrev pub RunTells : Type 0
 RunTells = (slots : List ℕ) (F : Forecast) (bytes : List ℕ) (allowance : ℕ) (T : Totals) → check slots F ≡ 0
-    → Tells (row9 bytes (run slots F bytes allowance T .reply .place) ∷ row10 bytes allowance (run slots F bytes allowance T) ∷ [])
-    (run slots F bytes allowance T .reply .stop)
+    → Tells (stopRows bytes allowance (run slots F bytes allowance T)) (run slots F bytes allowance T .reply .stop)
     × (run slots F bytes allowance T .reply .stop ≡ 0 → run slots F bytes allowance T .reply .place ≡ length bytes)
     × (run slots F bytes allowance T .reply .moves ≤ allowance)
 

@@ -108,7 +108,8 @@ deleteKey S y R =
     let sparse : Bool = ltb (length (keys (cutFrom y ss))) (floor S) in
     settled S s cs (cutFrom y ss) (length (above y (getD ss s []))) sparse (deleteLevel S y ss)
 
--- A request on a list and forecast that have passed their check: refusals 5 to 8, in order of testing, then the work. (9: no request.)
+-- A request on a list and forecast that have passed their check: refusals 5 to 8, in order of testing, then the work.
+-- Bad is no request: a run stops before it, and no call makes one; its line here only makes the function whole.
 unfoldable pub outcome : Shares → Request → Room → Outcome
 outcome S (Insert y) R =
     if eqb y 0 then refusedBy 5 R

@@ -2,7 +2,7 @@
 use Prim.Native.Nat.{ℕ, _+_, _*_, _/_, _^_, _≤_, _<_}
 use mathlib.Core.Path.{_≡_}
 use mathlib.Core.Logic.{_⊎_, _≢_}
-use mathlib.Core.List.{List, [], _∷_}
+use mathlib.Core.List.{List, [], _∷_, _++_}
 use lib.ListN.{length, drop, getD}
 use Rattle.slots.specs.Segments.{live}
 use Rattle.slots.specs.Orders.{slotAt}
@@ -109,3 +109,26 @@ row10 bytes allowance W = record {
       (W .reply .place < length bytes)
       × (allowance < W .reply .moves + request (requestOf (drop (W .reply .place) bytes)) (W .slots) (W .forecast) .answer .moves);
 }
+
+-- THE ROWS OF EACH CALL, in order of testing: of the list, of list and forecast, then the call's own.
+abbrev pub listRows : List ℕ → List Row
+listRows slots = row1 slots ∷ row2 slots ∷ row3 slots ∷ []
+
+abbrev pub bothRows : List ℕ → Forecast → List Row
+bothRows slots F = listRows slots ++ (row4 slots F ∷ [])
+
+abbrev pub lookupRows : List ℕ → ℕ → List Row
+lookupRows slots y = listRows slots ++ (row5 y ∷ [])
+
+abbrev pub insertRows : List ℕ → Forecast → ℕ → List Row
+insertRows slots F y = bothRows slots F ++ (row5 y ∷ row6 slots y ∷ row8 slots ∷ [])
+
+abbrev pub deleteRows : List ℕ → Forecast → ℕ → List Row
+deleteRows slots F y = bothRows slots F ++ (row5 y ∷ row7 slots y ∷ [])
+
+-- The rows by which a run stops, and all of a run's; W is what it did before its place.
+abbrev pub stopRows : List ℕ → ℕ → Worked → List Row
+stopRows bytes allowance W = row9 bytes (W .reply .place) ∷ row10 bytes allowance W ∷ []
+
+abbrev pub runRows : List ℕ → Forecast → List ℕ → ℕ → Worked → List Row
+runRows slots F bytes allowance W = bothRows slots F ++ stopRows bytes allowance W

@@ -1,6 +1,6 @@
 // Document 01 as definitions, in specs/, and their theorems, in proofs/. No code.
 
-// What a request record asks for.
+// What a request record asks for. Bad is no request: it stands for a record that is short or has a wrong mark or kind.
 pub enum Request {
     Insert(u64),
     Delete(u64),

@@ -1,33 +1,24 @@
 -- The constant table's rows are the rules' shares: one computed test over both.
 use mathlib.Core.Path.{_≡_}
 use mathlib.Core.Bool.{Bool, _&&_}
-use mathlib.Core.List.{List, [], _∷_}
+use mathlib.Core.List.{List, _++_, map}
 use Prim.Native.Nat.{ℕ, zero, suc, _≤_, _<_}
 use native.Mathlib.Omega.{arith}
 use lib.Dec.{T, leb, eqb, eqb→eq, leb→le}
 use Rattle.lists.proofs.Tests.{and-left, and-right}
-use Rattle.rules.specs.Shares.{shares, rowAt}
+use lib.ListN.{take, replicate}
+use Rattle.rules.specs.Shares.{shares, rowAt, highRows, lowRows}
 use Rattle.rules.proofs.Sharing.Table.{at}
 
+-- the constants' rows: those of the rules, filled up with 0
+abbrev wide : List (List ℕ) → List (List ℕ)
+wide = map (λ r. take 7 (r ++ replicate 7 0))
+
 abbrev highs : List (List ℕ)
-highs =
-    (64 ∷ 32 ∷ 0 ∷ 0 ∷ 0 ∷ 0 ∷ 0 ∷ [])
-    ∷ (64 ∷ 48 ∷ 32 ∷ 0 ∷ 0 ∷ 0 ∷ 0 ∷ [])
-    ∷ (64 ∷ 53 ∷ 42 ∷ 32 ∷ 0 ∷ 0 ∷ 0 ∷ [])
-    ∷ (64 ∷ 56 ∷ 48 ∷ 40 ∷ 32 ∷ 0 ∷ 0 ∷ [])
-    ∷ (64 ∷ 57 ∷ 51 ∷ 44 ∷ 38 ∷ 32 ∷ 0 ∷ [])
-    ∷ (64 ∷ 58 ∷ 53 ∷ 48 ∷ 42 ∷ 37 ∷ 32 ∷ [])
-    ∷ []
+highs = wide highRows
 
 abbrev lows : List (List ℕ)
-lows =
-    (7 ∷ 13 ∷ 0 ∷ 0 ∷ 0 ∷ 0 ∷ 0 ∷ [])
-    ∷ (7 ∷ 10 ∷ 13 ∷ 0 ∷ 0 ∷ 0 ∷ 0 ∷ [])
-    ∷ (7 ∷ 9 ∷ 11 ∷ 13 ∷ 0 ∷ 0 ∷ 0 ∷ [])
-    ∷ (7 ∷ 8 ∷ 10 ∷ 12 ∷ 13 ∷ 0 ∷ 0 ∷ [])
-    ∷ (7 ∷ 8 ∷ 9 ∷ 11 ∷ 12 ∷ 13 ∷ 0 ∷ [])
-    ∷ (7 ∷ 8 ∷ 9 ∷ 10 ∷ 11 ∷ 12 ∷ 13 ∷ [])
-    ∷ []
+lows = wide lowRows
 
 -- an entry is the share, and no larger than this
 abbrev right : List (List ℕ) → (ℕ → ℕ → ℕ) → ℕ → ℕ → ℕ → Bool

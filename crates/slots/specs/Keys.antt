@@ -42,6 +42,6 @@ largest (k ∷ ks) = let m = largest ks in if ltb k m then m else k
 unfoldable pub predecessor : ℕ → Segments → ℕ
 predecessor y ss = largest (below y (keys ss))
 
--- The segment where a key is; 0 for the front.
+-- The segment where a key is; 0 for the front; the number of segments for a key that is in none.
 unfoldable pub segmentOf : Segments → ℕ → ℕ
 segmentOf ss k = let at = placeBy (member k) ss in if eqb k 0 then 0 else at

@@ -1,6 +1,6 @@
 -- Computed cases of our own, for what document 01's sums let through.
 use mathlib.Core.Path.{_≡_, refl}
-use mathlib.Core.Bool.{Bool}
+use mathlib.Core.Bool.{Bool, true, false}
 use mathlib.Core.List.{List, [], _∷_, _++_, map, List·Memᴰ as Mem}
 use Prim.Native.Nat.{ℕ, _*_}
 use lib.ListN.{replicate}
@@ -12,7 +12,7 @@ use Rattle.forecast.specs.Steps.{raised, tailed, noted, dropped, retargeted}
 use Rattle.rules.specs.declared.Request.the-variants.{Insert, Delete}
 use Rattle.rules.specs.Shares.{shares}
 use Rattle.rules.specs.SharingOut.{leftShare, plan, shareOut}
-use Rattle.rules.specs.Placing.{sweep, chosen, settled, insertLevel, insertKey, deleteLevel, deleteKey, outcome}
+use Rattle.rules.specs.Placing.{Room, sweep, chosen, settled, insertLevel, insertKey, deleteLevel, deleteKey, outcome}
 use Rattle.rules.specs.Sums.{Case, Worked, Shared, gives, says, room, upFrom}
 
 -- the even numbers from 2 to 128
@@ -49,8 +49,26 @@ crowdedWindow =
     Worked 6 (room (deal crowdedCounts (upFrom 1 (total crowdedCounts))) []) (Delete 1 ∷ [])
     (fours 7 ++ (lower ++ (fours 3 ++ (lower ++ (fours 3 ++ (lower ++ (0 ∷ 1197 ∷ 0 ∷ 0 ∷ 0 ∷ [])))))))
 
+-- The denominators of formula 6: with the two exchanged, or without the keys in them, the left half would take 13.
+abbrev fractions : Case
+fractions = Shared 1 (cell 2 0 1 ∷ cell 15 0 5 ∷ []) (upFrom 1 43) (15 ∷ 28 ∷ [])
+
+-- A shift's moves: the two keys above, and the new one.
+abbrev shifts : Case
+shifts = Worked 1 (room ((10 ∷ 20 ∷ 30 ∷ []) ∷ [] ∷ []) []) (Insert 15 ∷ []) (4 ∷ 0 ∷ 0 ∷ 3 ∷ 0 ∷ 1 ∷ 0 ∷ [])
+
+-- P at height 2 is 8: where 7 cells are used, an insert behind a key without one leaves 8; the next only takes from the tail, which goes.
+abbrev sevenCells : Room
+sevenCells = room (upFrom 1 8 ∷ [] ∷ [] ∷ [] ∷ []) (map (λ x. cell x 0 1) (upFrom 1 7))
+
+abbrev eighthCell : Case
+eighthCell = Worked 2 sevenCells (Insert 9 ∷ []) (9 ∷ 0 ∷ 0 ∷ 0 ∷ 0 ∷ 1 ∷ 0 ∷ 8 ∷ 0 ∷ [])
+
+abbrev noNinthCell : Case
+noNinthCell = Worked 2 sevenCells (Insert 9 ∷ Insert 10 ∷ []) (10 ∷ 0 ∷ 0 ∷ 0 ∷ 0 ∷ 1 ∷ 0 ∷ 7 ∷ 0 ∷ [])
+
 abbrev ownCases : List Case
-ownCases = notesFirst ∷ frontLeft ∷ frontElsewhere ∷ crowdedWindow ∷ []
+ownCases = notesFirst ∷ frontLeft ∷ frontElsewhere ∷ crowdedWindow ∷ fractions ∷ shifts ∷ eighthCell ∷ noNinthCell ∷ []
 
 abbrev right : Case → Bool
 right c = same (gives c) (says c)
@@ -63,3 +81,9 @@ own-cases c m = same→eq (gives c) (says c) (all-at right ownCases tt c m)
 pub aims-again : outcome (shares 2) (Insert 3) (room (evens ∷ [] ∷ [] ∷ [] ∷ []) (cell 128 0 1 ∷ [])) .room .cells ≡ cell 2 0 1 ∷ cell 128 1 1 ∷ []
 unfolding without predecessor segmentOf weight raised tailed noted dropped retargeted leftShare plan shareOut sweep chosen settled insertLevel insertKey deleteLevel deleteKey outcome
 aims-again = refl
+
+-- A sweep is told, and its absence.
+pub swept-told : (outcome (shares 2) (Insert 3) (room (evens ∷ [] ∷ [] ∷ [] ∷ []) []) .swept ≡ true)
+    × (outcome (shares 1) (Insert 15) (room ((10 ∷ []) ∷ [] ∷ []) []) .swept ≡ false)
+unfolding without predecessor segmentOf weight raised tailed noted dropped retargeted leftShare plan shareOut sweep chosen settled insertLevel insertKey deleteLevel deleteKey outcome
+swept-told = (refl, refl)

@@ -56,3 +56,8 @@ present-before-full = refl
 full-by-keys : outcome (shares 1) (Insert 50) (room (segmentsOf (slots 33 31)) []) .answer .number ≡ 8
 unfolding outcome segmentsOf
 full-by-keys = refl
+
+-- lookup tells the segment of a key that is there
+in-segment : lookup (slots 1 1) 101 .segment ≡ 1
+unfolding lookup lookedUp checkList heightOf orderOf segmentsOf segmentOf
+in-segment = refl

@@ -1,7 +1,7 @@
 -- Demand 1: each call gives each number exactly when its row applies and none before it does.
 use mathlib.Core.Path.{_≡_, refl}
 use mathlib.Core.Bool.{Bool, true, false, not}
-use mathlib.Core.List.{List, [], _∷_}
+use mathlib.Core.List.{List, [], _∷_, _++_}
 use Prim.Native.Nat.{ℕ}
 use native.Mathlib.Omega.{arith}
 use lib.Dec.{leb, ltb, eqb}
@@ -20,7 +20,7 @@ use Rattle.rules.specs.Placing.{Outcome, insertKey, deleteKey, outcome}
 use Rattle.rules.specs.Looking.{Found, Scanned, scanned}
 use Rattle.rules.specs.Checks.{sharesOf, checkList, check}
 use Rattle.rules.specs.Calls.{roomOf, Made, make, lookup, scan, Called, unchanged, changed, request}
-use Rattle.rules.specs.Rows.{Row, Tells, row1, row2, row3, row4, row5, row6, row7, row8}
+use Rattle.rules.specs.Rows.{Row, Tells, row1, row2, row3, row4, row5, row6, row7, row8, listRows, bothRows}
 use Rattle.forecast.specs.Held.{Roomy}
 use Rattle.rules.specs.Demand1.{MakeTells, CheckTells, CheckPasses, LookupTells, ScanTells, InsertTells, DeleteTells}
 use Rattle.rules.proofs.Requests.Accepted.{settled-number}
@@ -39,9 +39,6 @@ unfolding make
 make-tells slots = tells-if (λ (m : Made). m .number) (eqb (heightOf (length slots)) 0) (row1 slots) [] _ _ refl (decides-1 slots) (λ t. refl)
 
 -- CHECK, of the list alone
-abbrev listRows : List ℕ → List Row
-listRows slots = row1 slots ∷ row2 slots ∷ row3 slots ∷ []
-
 list-numbered : (slots : List ℕ) → Numbered (listRows slots)
 list-numbered slots = omega arith
 
@@ -53,11 +50,8 @@ list-tells slots =
     tells-if itself (ltb (capacity (sharesOf slots)) (length (live slots))) (row3 slots) [] 3 0 refl (decides-3 slots t) λ v. refl
 
 -- and with the forecast
-abbrev allRows : List ℕ → Forecast → List Row
-allRows slots F = row1 slots ∷ row2 slots ∷ row3 slots ∷ row4 slots F ∷ []
-
-all-numbered : (slots : List ℕ) (F : Forecast) → Numbered (allRows slots F)
-all-numbered slots F = omega arith
+both-numbered : (slots : List ℕ) (F : Forecast) → Numbered (bothRows slots F)
+both-numbered slots F = omega arith
 
 pub check-tells : CheckTells
 unfolding check
@@ -66,7 +60,7 @@ check-tells slots F r =
     tells-if itself (not (isSound (faultOf (cellsOf (sharesOf slots)) (segmentsOf slots) F))) (row4 slots F) [] 4 0 refl (decides-4 slots (passed slots e) F r) λ t. refl
 
 pub check-passes : CheckPasses
-check-passes slots F r = tells-none (allRows slots F) (check slots F) (all-numbered slots F) (check-tells slots F r)
+check-passes slots F r = tells-none (bothRows slots F) (check slots F) (both-numbered slots F) (check-tells slots F r)
 
 -- LOOKUP AND SCAN
 pub lookup-tells : LookupTells
@@ -103,10 +97,10 @@ module _ (slots : List ℕ) (F : Forecast) (K : Passed slots) (y : ℕ) where
 -- a request tells what its check tells, then what its outcome tells
 request-tells : (q : Request) (rest : List Row) (slots : List ℕ) (F : Forecast) → Roomy F
     → (check slots F ≡ 0 → Tells rest (number (outcome (sharesOf slots) q (roomOf slots F))))
-    → Tells (row1 slots ∷ row2 slots ∷ row3 slots ∷ row4 slots F ∷ rest) (request q slots F .answer .number)
+    → Tells (bothRows slots F ++ rest) (request q slots F .answer .number)
 unfolding request
 request-tells q rest slots F r t =
-    tells-more told (allRows slots F) rest (check slots F) (unchanged slots F (check slots F)) _ (all-numbered slots F) (check-tells slots F r) refl λ e.
+    tells-more told (bothRows slots F) rest (check slots F) (unchanged slots F (check slots F)) _ (both-numbered slots F) (check-tells slots F r) refl λ e.
     rw (same (eqb (number o) 0)) (t e)
   where
     told : Called → ℕ

@@ -20,6 +20,11 @@ pub read-high-first : requestOf (0xA5 ∷ 0x5A ∷ 1 ∷ 0 ∷ 0 ∷ 0 ∷ 0 ∷
 unfolding requestOf
 read-high-first = refl
 
+-- and kind 2 asks for a delete
+pub read-delete : requestOf (0xA5 ∷ 0x5A ∷ 2 ∷ 1 ∷ 0 ∷ 0 ∷ 0 ∷ 0 ∷ 0 ∷ 0 ∷ 3 ∷ []) ≡ Delete 72057594037927939
+unfolding requestOf
+read-delete = refl
+
 pub not-bad : (q : Request) → T (not (isBad q)) → q ≢ Bad
 not-bad q t e = T-not (isBad q) t (subst (λ (z : Request). T (isBad z)) (sym e) tt)
 

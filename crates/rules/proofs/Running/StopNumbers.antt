@@ -16,7 +16,7 @@ use Rattle.rules.specs.Shares.{Shares}
 use Rattle.rules.specs.Placing.{Room, outcome}
 use Rattle.rules.specs.Runs.{requestOf, recordsOf, isBad, Ran, ran}
 use Rattle.rules.specs.Calls.{worked, request}
-use Rattle.rules.specs.Rows.{Tells, row9, row10}
+use Rattle.rules.specs.Rows.{Tells, stopRows}
 use Rattle.rules.proofs.Running.Records.{record-at}
 use Rattle.rules.proofs.Running.BadRecords.{bad-at, good-at}
 use Rattle.rules.proofs.Running.RequestsWorked.{Stops, ends, at-bad, over}
@@ -35,13 +35,13 @@ module _ (S : Shares) (allowance : ℕ) (bytes : List ℕ) (R : Room) where
 
   pub ran-tells : (totals : Totals)
       → ((q : Request) → request q (render 0 (r .room .segments)) (forecastOf (r .room .cells)) .answer .moves ≡ outcome S q (r .room) .answer .moves)
-      → Tells (row9 bytes p ∷ row10 bytes allowance (worked totals r) ∷ []) (r .stop)
+      → Tells (stopRows bytes allowance (worked totals r)) (r .stop)
   ran-tells totals single = go (ran-works S allowance bytes R .stops)
     where
       outside : done S allowance bytes R ≡ length (recordsOf bytes) → ¬ (p < length bytes)
       outside h = omega (arith, ends-whole S allowance bytes R h)
 
-      go : Stops S allowance (recordsOf bytes) (done S allowance bytes R) r → Tells (row9 bytes p ∷ row10 bytes allowance (worked totals r) ∷ []) (r .stop)
+      go : Stops S allowance (recordsOf bytes) (done S allowance bytes R) r → Tells (stopRows bytes allowance (worked totals r)) (r .stop)
       go (ends e h) = inr ((λ x. outside h (x .0)), inr ((λ x. outside h (x .0)), e))
       go (at-bad e h b) = inl ((stops-inside S allowance bytes R h, bad-at bytes p (subst (λ (q : Request). T (isBad q)) next b)), e)
       go (over e h g o) =

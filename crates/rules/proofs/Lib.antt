@@ -7,3 +7,4 @@ pub mod Sets
 pub mod Demand2
 pub mod Refusals
 pub mod Running
+pub mod Demand2Ruled

@@ -1,17 +1,24 @@
 -- Demand 2. Any sequence of inserts, deletes, lookups and scans on a list made empty is answered as a plain sorted set of at most half as
--- many keys as slots would answer.
+-- many keys as slots would answer. After each request the slots, the forecast and the reported moves are those of the paper's rules with
+-- our rounding and ties.
 use Prim.Native.Nat.{ℕ, _*_, _^_, _≤_, _<_}
 use mathlib.Core.Path.{_≡_}
 use mathlib.Core.Logic.{_⊎_, _≢_, _↔_}
 use mathlib.Core.List.{List, [], _∷_, List·Memᴰ as Mem}
 use lib.Dec.{T}
-use lib.ListN.{length}
-use Rattle.slots.specs.Segments.{live}
+use lib.ListN.{length, replicate}
+use Rattle.slots.specs.Segments.{live, render}
 use Rattle.slots.specs.Keys.{Rising}
 use Rattle.forecast.specs.declared.Forecast.{Forecast}
+use Rattle.forecast.specs.Cells.{forecastOf}
+use Rattle.forecast.specs.Held.{Roomy}
+use Rattle.rules.specs.declared.Request.{Request}
+use Rattle.rules.specs.declared.Request.the-variants.{Insert, Delete}
+use Rattle.rules.specs.Shares.{Shares, shares}
+use Rattle.rules.specs.Placing.{Room, Outcome, outcome}
 use Rattle.rules.specs.Looking.{Found, Scanned}
-use Rattle.rules.specs.Checks.{check}
-use Rattle.rules.specs.Calls.{make, lookup, scan, insert, delete}
+use Rattle.rules.specs.Checks.{sharesOf, check}
+use Rattle.rules.specs.Calls.{roomOf, make, lookup, scan, Called, request, insert, delete}
 use Rattle.rules.specs.PlainSet as set
 
 -- The plain set is a set.
@@ -23,7 +30,7 @@ pub record IsSet : Type 0 where
   pub beyond : (a : ℕ) (ks : List ℕ) (k : ℕ) → Mem k (set.beyond a ks) ↔ ((a < k) × Mem k ks)
   pub rising : (a : ℕ) (ks : List ℕ) → Rising ks → Rising (set.beyond a ks)
 
--- The public calls, asked the same: what they tell, and what they leave of slots and forecast.
+-- FIRST SENTENCE. The public calls, asked the same: what they tell, and what they leave of slots and forecast.
 pub record Held : Type 0 where
   pub slots : List ℕ
   pub forecast : Forecast
@@ -59,3 +66,65 @@ Demand2 = (h : ℕ) → 1 ≤ h → h ≤ 6 → (slots : List ℕ) → length sl
     → (allTold asks (made slots) ≡ set.allTold (32 * 2 ^ h) (13 * 2 ^ h) asks [])
     × (live (afterAll asks (made slots) .slots) ≡ set.afterAll (32 * 2 ^ h) asks [])
     × (check (afterAll asks (made slots) .slots) (afterAll asks (made slots) .forecast) ≡ 0)
+
+-- SECOND SENTENCE. What the rules alone make of an ask, on a list with its forecast: what is left, and the moves to be reported. They work
+-- requests, inserts and deletes; a lookup or a scan leaves all as it is.
+abbrev pub ruled : Shares → set.Ask → Room → Room
+ruled S (set.Insert y) R = outcome S (Insert y) R .room
+ruled S (set.Delete y) R = outcome S (Delete y) R .room
+ruled S (set.Lookup y) R = R
+ruled S (set.Scan a out) R = R
+
+abbrev pub ruledMoves : Shares → set.Ask → Room → ℕ
+ruledMoves S (set.Insert y) R = outcome S (Insert y) R .answer .moves
+ruledMoves S (set.Delete y) R = outcome S (Delete y) R .answer .moves
+ruledMoves S (set.Lookup y) R = 0
+ruledMoves S (set.Scan a out) R = 0
+
+abbrev pub ruledAll : Shares → List set.Ask → Room → Room
+ruledAll S [] R = R
+ruledAll S (a ∷ asks) R = ruledAll S asks (ruled S a R)
+
+abbrev pub allRuledMoves : Shares → List set.Ask → Room → List ℕ
+allRuledMoves S [] R = []
+allRuledMoves S (a ∷ asks) R = ruledMoves S a R ∷ allRuledMoves S asks (ruled S a R)
+
+abbrev pub emptyRoom : ℕ → Room
+emptyRoom h = record { segments = replicate (2 ^ h) []; cells = [] }
+
+-- The moves that the public calls report.
+abbrev pub moves : set.Ask → Held → ℕ
+moves (set.Insert y) H = insert (H .slots) (H .forecast) y .answer .moves
+moves (set.Delete y) H = delete (H .slots) (H .forecast) y .answer .moves
+moves (set.Lookup y) H = 0
+moves (set.Scan a out) H = 0
+
+abbrev pub allMoves : List set.Ask → Held → List ℕ
+allMoves [] H = []
+allMoves (a ∷ asks) H = moves a H ∷ allMoves asks (after a H)
+
+-- What a call answers (number, moves, sparse) and leaves is what the rules say.
+pub record AsRuled (c : Called) (o : Outcome) : Type 0 where
+  pub answer : c .answer ≡ o .answer
+  pub slots : c .slots ≡ render 0 (o .room .segments)
+  pub forecast : c .forecast ≡ forecastOf (o .room .cells)
+
+-- A request on slots and forecast that pass the check, accepted or refused: as the rules say of what they show. Where it is refused nothing
+-- has changed, and what the slots show, written out, is the slots again.
+abbrev pub RequestRuled : Type 0
+RequestRuled = (q : Request) (slots : List ℕ) (F : Forecast) → Roomy F → check slots F ≡ 0
+    → AsRuled (request q slots F) (outcome (sharesOf slots) q (roomOf slots F))
+
+-- Slots and forecast that are the room R of the rules, and show it; what the next request answers and leaves is what the rules make of R.
+pub record Stands (S : Shares) (R : Room) (H : Held) : Type 0 where
+  pub slots : H .slots ≡ render 0 (R .segments)
+  pub forecast : H .forecast ≡ forecastOf (R .cells)
+  pub shown : roomOf (H .slots) (H .forecast) ≡ R
+  pub next : (q : Request) → AsRuled (request q (H .slots) (H .forecast)) (outcome S q R)
+
+-- From make on any array of a permitted length: what stands after any sequence is what the rules alone make of an empty list, and so are all
+-- the moves reported on the way.
+abbrev pub SequenceRuled : Type 0
+SequenceRuled = (h : ℕ) → 1 ≤ h → h ≤ 6 → (slots : List ℕ) → length slots ≡ 64 * 2 ^ h → (asks : List set.Ask)
+    → Stands (shares h) (ruledAll (shares h) asks (emptyRoom h)) (afterAll asks (made slots))
+    × (allMoves asks (made slots) ≡ allRuledMoves (shares h) asks (emptyRoom h))

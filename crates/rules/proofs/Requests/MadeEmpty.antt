@@ -12,9 +12,9 @@ use Rattle.slots.proofs.Heights.{height-is}
 use Rattle.slots.proofs.Render.{live-render, render-empty}
 use Rattle.forecast.specs.Cells.{forecastOf}
 use Rattle.rules.specs.Shares.{shares}
-use Rattle.rules.specs.Placing.{Room}
 use Rattle.rules.specs.Checks.{check}
 use Rattle.rules.specs.Calls.{Made, make}
+use Rattle.rules.specs.Demand2.{emptyRoom}
 use Rattle.rules.proofs.Requests.StaysGood.{Good}
 use Rattle.rules.proofs.Requests.Checked.{check-render}
 
@@ -26,11 +26,7 @@ no-size : (n m : ℕ) → All (λ (x : List ℕ). length x ≤ m) (replicate n [
 no-size zero m x i = absurd (nowhere i)
 no-size (suc n) m x i = elim (mem-cases i) [ inl e ↦ rw e (omega arith) | inr k ↦ no-size n m x k ]
 
--- segments with no keys, and no cells
-abbrev empty : ℕ → Room
-empty h = record { segments = replicate (2 ^ h) []; cells = [] }
-
-good-empty : (h : ℕ) → Good (shares h) (empty h)
+pub good-empty : (h : ℕ) → Good (shares h) (emptyRoom h)
 good-empty h = record {
   proper = record { number = length-replicate (2 ^ h) []; listed = record { rising = rw (no-keys (2 ^ h)) tt; live = rw (no-keys (2 ^ h)) (λ k m. absurd (nowhere m)) } };
   sizes = no-size (2 ^ h) (shares h .high 0);
@@ -40,7 +36,7 @@ good-empty h = record {
 }
 
 module _ (h : ℕ) (from : 1 ≤ h) (to : h ≤ 6) (slots : List ℕ) (e : length slots ≡ 64 * 2 ^ h) where
-  made-is : make slots ≡ record { slots = render 0 (replicate (2 ^ h) []); forecast = forecastOf []; number = 0 }
+  pub made-is : make slots ≡ record { slots = render 0 (replicate (2 ^ h) []); forecast = forecastOf []; number = 0 }
   unfolding make
   made-is =
       rw (ne-eqb (heightOf (length slots)) 0 (λ z. absurd (omega (arith, sym (ap heightOf e ∙ height-is h from to)))), e, render-empty {A = ℕ} 0 (2 ^ h)) refl
@@ -49,7 +45,7 @@ module _ (h : ℕ) (from : 1 ≤ h) (to : h ≤ 6) (slots : List ℕ) (e : lengt
   made-length = ap (λ (m : Made). length (m .slots)) made-is ∙ ap length (render-empty {A = ℕ} 0 (2 ^ h)) ∙ length-replicate (64 * 2 ^ h) 0
 
   pub made-passes : check (make slots .slots) (make slots .forecast) ≡ 0
-  made-passes = rw made-is (check-render h from to (empty h) (good-empty h))
+  made-passes = rw made-is (check-render h from to (emptyRoom h) (good-empty h))
 
   pub made-keys : live (make slots .slots) ≡ []
   made-keys = rw made-is (live-render (replicate (2 ^ h) []) (good-empty h .proper .listed .live) ∙ no-keys (2 ^ h))

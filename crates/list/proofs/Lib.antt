@@ -5,4 +5,5 @@ pub mod Stretches
 pub mod KeysAbove
 pub mod Papers
 pub mod OneOutcome
+pub mod Chains
 pub mod Sums

@@ -1,4 +1,5 @@
 pub mod Answers
 pub mod Admits
+pub mod Chains
 pub mod Changes
 pub mod Scans

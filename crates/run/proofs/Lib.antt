@@ -4,3 +4,4 @@ pub mod StepInRun
 pub mod MidRun
 pub mod Admitted
 pub mod OneOutcome
+pub mod Differences

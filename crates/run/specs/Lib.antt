@@ -1,3 +1,4 @@
 pub mod Sums
 pub mod Admits
 pub mod Working
+pub mod Differences

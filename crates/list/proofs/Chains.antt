@@ -9,8 +9,8 @@ use Rattle.rules.specs.Placing.{Answer}
 use Rattle.rules.specs.Looking.{Found}
 use Rattle.rules.specs.PlainSet as set
 use Rattle.rules.specs.Demand2.{Held, told, after, allTold, afterAll, made, ruledAll, emptyRoom, moves, allMoves, Stands}
-use Rattle.rules.proofs.Demand2.{demand2}
-use Rattle.rules.proofs.AsRuled.{sequence-ruled}
+use Rattle.rules.proofs.Demand2.{sequence-answered}
+use Rattle.rules.proofs.Demand2Ruled.{sequence-ruled}
 use Rattle.list.specs.Chains.{Call, inserted, deleted, lookedUp, scanned, Chain, none, next, Chained}
 
 -- what a call tells, reports and leaves
@@ -54,7 +54,7 @@ same-chain (next c cs) = same-next (same-call c) (same-chain cs)
 -- after make
 pub chained : Chained
 chained h from to slots e r left m asks ts ms H c =
-    let d = demand2 h from to slots e asks in
+    let d = sequence-answered h from to slots e asks in
     let q = sequence-ruled h from to slots e asks in
     record {
       told = s .told ∙ d .0;

@@ -1,4 +1,4 @@
--- Demand 2: from make on, the public calls answer as the plain set does, and hold its keys.
+-- Demand 2, first sentence: from make on, the public calls answer as the plain set does, and hold its keys.
 use mathlib.Core.Path.{_≡_, refl, ap, ap₂, _∙_}
 use mathlib.Core.Bool.{_&&_}
 use mathlib.Core.List.{List, [], _∷_}
@@ -20,7 +20,7 @@ use Rattle.rules.specs.Looking.{Found, Scanned, lookedUp, scanned}
 use Rattle.rules.specs.Checks.{sharesOf, checkList, check}
 use Rattle.rules.specs.Calls.{roomOf, lookup, scan, request}
 use Rattle.rules.specs.PlainSet as set
-use Rattle.rules.specs.Demand2.{Held, told, after, allTold, afterAll, made, Demand2}
+use Rattle.rules.specs.Demand2.{Held, told, after, allTold, afterAll, made, SequenceAnswered}
 use Rattle.rules.specs.Demand3.{setAfter}
 use Rattle.rules.proofs.Sharing.Table.{ends}
 use Rattle.rules.proofs.Requests.KeysKept.{keys-kept}
@@ -134,8 +134,8 @@ made-holds h from to slots e = record {
   keys = made-keys h from to slots e;
 }
 
-pub demand2 : Demand2
-demand2 h from to slots e asks = (r .0, r .1 .keys, r .1 .passes)
+pub sequence-answered : SequenceAnswered
+sequence-answered h from to slots e asks = (r .0, r .1 .keys, r .1 .passes)
   where
     r : (allTold asks (made slots) ≡ set.allTold (32 * 2 ^ h) (13 * 2 ^ h) asks []) × Holds h (afterAll asks (made slots)) (set.afterAll (32 * 2 ^ h) asks [])
     r = from-held h from to asks (made slots) [] (made-holds h from to slots e)

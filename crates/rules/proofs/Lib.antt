@@ -8,3 +8,4 @@ pub mod Demand2
 pub mod Refusals
 pub mod Running
 pub mod Demand2Ruled
+pub mod Demands

@@ -21,7 +21,7 @@ use Rattle.rules.specs.Checks.{sharesOf, check}
 use Rattle.rules.specs.Calls.{roomOf, make, lookup, scan, Called, request, insert, delete}
 use Rattle.rules.specs.PlainSet as set
 
--- The plain set is a set.
+-- The plain set is a set; whatever is asked of an empty one, it has at most `most` keys, rising.
 pub record IsSet : Type 0 where
   pub rises : (y : ℕ) (ks : List ℕ) → Rising ks → Rising (set.add y ks) × Rising (set.remove y ks)
   pub has : (y : ℕ) (ks : List ℕ) → T (set.has y ks) ↔ Mem y ks
@@ -29,6 +29,7 @@ pub record IsSet : Type 0 where
   pub remove : (y : ℕ) (ks : List ℕ) → Rising ks → (k : ℕ) → Mem k (set.remove y ks) ↔ ((k ≢ y) × Mem k ks)
   pub beyond : (a : ℕ) (ks : List ℕ) (k : ℕ) → Mem k (set.beyond a ks) ↔ ((a < k) × Mem k ks)
   pub rising : (a : ℕ) (ks : List ℕ) → Rising ks → Rising (set.beyond a ks)
+  pub atMost : (most : ℕ) (asks : List set.Ask) → Rising (set.afterAll most asks []) × (length (set.afterAll most asks []) ≤ most)
 
 -- FIRST SENTENCE. The public calls, asked the same: what they tell, and what they leave of slots and forecast.
 pub record Held : Type 0 where
@@ -61,8 +62,8 @@ abbrev pub made : List ℕ → Held
 made slots = record { slots = make slots .slots; forecast = make slots .forecast }
 
 -- From make on any array of a permitted length: every answer is the set's, the live keys are the set, and list and forecast pass the check.
-abbrev pub Demand2 : Type 0
-Demand2 = (h : ℕ) → 1 ≤ h → h ≤ 6 → (slots : List ℕ) → length slots ≡ 64 * 2 ^ h → (asks : List set.Ask)
+abbrev pub SequenceAnswered : Type 0
+SequenceAnswered = (h : ℕ) → 1 ≤ h → h ≤ 6 → (slots : List ℕ) → length slots ≡ 64 * 2 ^ h → (asks : List set.Ask)
     → (allTold asks (made slots) ≡ set.allTold (32 * 2 ^ h) (13 * 2 ^ h) asks [])
     × (live (afterAll asks (made slots) .slots) ≡ set.afterAll (32 * 2 ^ h) asks [])
     × (check (afterAll asks (made slots) .slots) (afterAll asks (made slots) .forecast) ≡ 0)

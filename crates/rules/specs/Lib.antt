@@ -14,3 +14,4 @@ pub mod History
 pub mod Demand3
 pub mod Demand3Lent
 pub mod Sums
+pub mod Demands

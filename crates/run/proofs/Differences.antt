@@ -9,8 +9,8 @@ use Rattle.forecast.specs.declared.Forecast.{Forecast}
 use Rattle.rules.specs.declared.Totals.{Totals}
 use Rattle.rules.specs.Checks.{check}
 use Rattle.rules.specs.Calls.{Worked, stoppedAtOnce, worked, run}
-use Rattle.rules.proofs.Runs.{run-refused, run-checked}
-use Rattle.rules.proofs.Singly.{run-tells}
+use Rattle.rules.proofs.Running.Runs.{run-refused, run-checked}
+use Rattle.rules.proofs.Running.Singly.{run-tells}
 use Rattle.run.specs.declared.Run.{Run}
 use Rattle.run.specs.Sums.{since}
 use Rattle.run.specs.Admits.{RunAdmits}

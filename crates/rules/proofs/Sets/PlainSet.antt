@@ -1,14 +1,15 @@
 -- The plain set is a set: what it has, and what add, remove and beyond leave.
 use mathlib.Core.Path.{_≡_, sym, subst}
-use mathlib.Core.Bool.{Bool, true, false}
+use mathlib.Core.Bool.{Bool, true, false, not}
 use mathlib.Core.Logic.{_⊎_, inl, inr, _≢_, _↔_}
 use mathlib.Core.List.{List, [], _∷_, List·Memᴰ as Mem, List·Memᴰ·head as here, List·Memᴰ·tail as there}
 use mathlib.Core.List.{List·Memᴰ·cases-cons as mem-cases, List·Memᴰ·append-cases as in-either}
-use Prim.Native.Nat.{ℕ}
+use Prim.Native.Nat.{ℕ, suc, _≤_, _<_}
 use native.Mathlib.Omega.{arith}
-use lib.Dec.{T, ltb, eqb, lt→ltb, eqb→eq}
+use lib.Dec.{T, leb, ltb, eqb, lt→ltb, eqb→eq, nleb→lt}
+use lib.ListN.{length}
 use Rattle.lists.specs.Choice.{if_then_else_}
-use Rattle.lists.proofs.Tests.{tested}
+use Rattle.lists.proofs.Tests.{either, tested}
 use Rattle.lists.proofs.Filtered.{mem-only}
 use Rattle.slots.specs.Keys.{Rising, member, below, cut}
 use Rattle.slots.proofs.Rising.{only-rising, put-rising, below-mem, above-mem, cut-rising, cut-mem, mem-cut}
@@ -49,13 +50,54 @@ module _ (y : ℕ) where
       other : Mem k (cut y ks) → k ≢ y
       other m = elim (in-either (below y ks) m) [ inl n ↦ omega (arith, below-mem y ks k n .0) | inr n ↦ omega (arith, above-mem y ks k n .0) ]
 
+  remove-rising : (ks : List ℕ) → Rising ks → Rising (set.remove y ks)
+  remove-rising ks h = subst Rising (cut-remove y ks h) (cut-rising y ks h)
+
+  -- one key more at most, and none
+  abbrev Within : ℕ → List ℕ → Type 0
+  Within n xs = length xs ≤ n
+
+  length-add : (ks : List ℕ) → length (set.add y ks) ≤ suc (length ks)
+  length-add [] = omega arith
+  length-add (j ∷ ks) =
+      let ih : length (set.add y ks) ≤ suc (length ks) = length-add ks in
+      either (Within (suc (suc (length ks)))) (ltb y j) (omega arith) (either (Within (suc (suc (length ks)))) (eqb y j) (omega arith) (omega arith))
+
+  length-remove : (ks : List ℕ) → length (set.remove y ks) ≤ length ks
+  length-remove [] = omega arith
+  length-remove (j ∷ ks) =
+      let ih : length (set.remove y ks) ≤ length ks = length-remove ks in
+      either (Within (suc (length ks))) (eqb y j) (omega arith) (omega arith)
+
+-- WHATEVER IS ASKED a rising list of at most `most` keys stays one
+abbrev Bounded : ℕ → List ℕ → Type 0
+Bounded most ks = Rising ks × (length ks ≤ most)
+
+bounded-after : (most : ℕ) (a : set.Ask) (ks : List ℕ) → Bounded most ks → Bounded most (set.after most a ks)
+bounded-after most (set.Insert y) ks b = go (eqb y 0) (set.has y ks) (leb most (length ks)) (nleb→lt most (length ks))
+  where
+    go : (c d e : Bool) → (T (not e) → length ks < most) → Bounded most (if eqb (if c then 5 else if d then 6 else if e then 8 else 0) 0 then set.add y ks else ks)
+    go true d e p = b
+    go false true e p = b
+    go false false true p = b
+    go false false false p = (add-rising y ks (b .0), omega (arith, length-add y ks, p tt))
+bounded-after most (set.Delete y) ks b =
+    either (Bounded most) (eqb (set.deleteNumber y ks) 0) (remove-rising y ks (b .0), omega (arith, length-remove y ks, b .1)) b
+bounded-after most (set.Lookup y) ks b = b
+bounded-after most (set.Scan a out) ks b = b
+
+bounded-all : (most : ℕ) (asks : List set.Ask) (ks : List ℕ) → Bounded most ks → Bounded most (set.afterAll most asks ks)
+bounded-all most [] ks b = b
+bounded-all most (a ∷ asks) ks b = bounded-all most asks (set.after most a ks) (bounded-after most a ks b)
+
 -- the statement of the specs, whole
 pub isSet : IsSet
 isSet = record {
-  rises = λ y ks h. (add-rising y ks h, subst Rising (cut-remove y ks h) (cut-rising y ks h));
+  rises = λ y ks h. (add-rising y ks h, remove-rising y ks h);
   has = λ y ks. (λ t. member→mem y ks (subst T (has-member y ks) t), λ m. subst T (sym (has-member y ks)) (mem→member y ks m));
   add = λ y ks. added y ks;
   remove = λ y ks. removed y ks;
   beyond = λ a ks k. rw (← above-beyond a ks) (λ m. above-mem a ks k m, λ p. mem-only (λ j. ltb a j) ks k (p .1) (lt→ltb a k (p .0)));
   rising = λ a ks h. subst Rising (above-beyond a ks) (only-rising (λ k. ltb a k) ks h);
+  atMost = λ most asks. bounded-all most asks [] (tt, omega arith);
 }

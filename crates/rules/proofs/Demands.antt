@@ -1,0 +1,56 @@
+-- All that the demands say, proved.
+use Rattle.rules.specs.Demands.{Demands}
+use Rattle.rules.proofs.Refusals.Numbers.{make-tells, check-tells, check-passes, lookup-tells, scan-tells, insert-tells, delete-tells}
+use Rattle.rules.proofs.Refusals.Refused.{request-refused, lookup-refused, scan-refused, make-refused}
+use Rattle.rules.proofs.Running.Runs.{run-refused, run-stops}
+use Rattle.rules.proofs.Running.Singly.{run-tells, run-is-singly, run-keeps}
+use Rattle.rules.proofs.Running.InTwo.{run-in-two}
+use Rattle.rules.proofs.Requests.SingleCalls.{request-keeps}
+use Rattle.rules.proofs.Sets.PlainSet.{isSet}
+use Rattle.rules.proofs.Demand2.{sequence-answered}
+use Rattle.rules.proofs.Demand2Ruled.{request-ruled, sequence-ruled}
+use Rattle.rules.proofs.Sharing.Table.{table, lawful}
+use Rattle.rules.proofs.Sharing.Splits.{split-is, no-zero}
+use Rattle.rules.proofs.Sharing.Climb.{climb-is}
+use Rattle.rules.proofs.Sweeping.Sizes.{insert-always-finds, sizes-kept}
+use Rattle.rules.proofs.Requests.KeysKept.{keys-kept, cells-aim}
+use Rattle.rules.proofs.Demand3.{inside-kept, swept-again}
+use Rattle.rules.proofs.Cases.Sums.{sums}
+
+pub demands : Demands
+demands = record {
+  make-tells = make-tells;
+  check-tells = check-tells;
+  check-passes = check-passes;
+  lookup-tells = lookup-tells;
+  scan-tells = scan-tells;
+  insert-tells = insert-tells;
+  delete-tells = delete-tells;
+  run-tells = run-tells;
+  request-refused = request-refused;
+  lookup-refused = lookup-refused;
+  scan-refused = scan-refused;
+  make-refused = make-refused;
+  run-refused = run-refused;
+  run-stops = run-stops;
+  run-is-singly = run-is-singly;
+  run-in-two = run-in-two;
+  request-keeps = request-keeps;
+  run-keeps = run-keeps;
+  is-set = isSet;
+  sequence-answered = sequence-answered;
+  request-ruled = request-ruled;
+  sequence-ruled = sequence-ruled;
+  table = table;
+  lawful = lawful;
+  split-is = split-is;
+  no-zero = no-zero;
+  climb-is = climb-is;
+  insert-finds = insert-always-finds;
+  cells-aim = cells-aim;
+  inside = inside-kept;
+  keys-kept = keys-kept;
+  sizes-kept = sizes-kept;
+  again = swept-again;
+  sums = sums;
+}

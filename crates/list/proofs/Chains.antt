@@ -9,8 +9,8 @@ use Rattle.rules.specs.Placing.{Answer}
 use Rattle.rules.specs.Looking.{Found}
 use Rattle.rules.specs.PlainSet as set
 use Rattle.rules.specs.Demand2.{Held, told, after, allTold, afterAll, made, ruledAll, emptyRoom, moves, allMoves, Stands}
-use Rattle.rules.proofs.Demand2.{sequence-answered}
-use Rattle.rules.proofs.Demand2Ruled.{sequence-ruled}
+use Rattle.rules.proofs.Demand2.Answered.{sequence-answered}
+use Rattle.rules.proofs.Demand2.Ruled.{sequence-ruled}
 use Rattle.list.specs.Chains.{Call, inserted, deleted, lookedUp, scanned, Chain, none, next, Chained}
 
 -- what a call tells, reports and leaves

@@ -7,14 +7,16 @@ use Rattle.rules.proofs.Running.Singly.{run-tells, run-is-singly, run-k
 use Rattle.rules.proofs.Running.InTwo.{run-in-two}
 use Rattle.rules.proofs.Requests.SingleCalls.{request-keeps}
 use Rattle.rules.proofs.Sets.PlainSet.{isSet}
-use Rattle.rules.proofs.Demand2.{sequence-answered}
-use Rattle.rules.proofs.Demand2Ruled.{request-ruled, sequence-ruled}
+use Rattle.rules.proofs.Demand2.Answered.{sequence-answered}
+use Rattle.rules.proofs.Demand2.Ruled.{request-ruled, sequence-ruled}
 use Rattle.rules.proofs.Sharing.Table.{table, lawful}
 use Rattle.rules.proofs.Sharing.Splits.{split-is, no-zero}
 use Rattle.rules.proofs.Sharing.Climb.{climb-is}
 use Rattle.rules.proofs.Sweeping.Sizes.{insert-always-finds, sizes-kept}
 use Rattle.rules.proofs.Requests.KeysKept.{keys-kept, cells-aim}
-use Rattle.rules.proofs.Demand3.{inside-kept, swept-again}
+use Rattle.rules.proofs.Demand3.Inside.{inside-kept}
+use Rattle.rules.proofs.Demand3.Again.{swept-again}
+use Rattle.rules.proofs.Demand3.Lent.{lent-inside, lent-again}
 use Rattle.rules.proofs.Cases.Sums.{sums}
 
 pub demands : Demands
@@ -49,8 +51,10 @@ demands = record {
   insert-finds = insert-always-finds;
   cells-aim = cells-aim;
   inside = inside-kept;
+  lent-inside = lent-inside;
   keys-kept = keys-kept;
   sizes-kept = sizes-kept;
   again = swept-again;
+  lent-again = lent-again;
   sums = sums;
 }

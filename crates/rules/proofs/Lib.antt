@@ -4,8 +4,7 @@ pub mod Sweeping
 pub mod Requests
 pub mod Demand3
 pub mod Sets
-pub mod Demand2
 pub mod Refusals
 pub mod Running
-pub mod Demand2Ruled
+pub mod Demand2
 pub mod Demands

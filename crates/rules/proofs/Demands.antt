@@ -15,6 +15,7 @@ use Rattle.rules.proofs.Sharing.Climb.{climb-is}
 use Rattle.rules.proofs.Sweeping.Sizes.{insert-always-finds, sizes-kept}
 use Rattle.rules.proofs.Requests.KeysKept.{keys-kept, cells-aim}
 use Rattle.rules.proofs.Demand3.Inside.{inside-kept}
+use Rattle.rules.proofs.Demand3.Told.{sweeps-told}
 use Rattle.rules.proofs.Demand3.Again.{swept-again}
 use Rattle.rules.proofs.Demand3.Lent.{lent-inside, lent-again}
 use Rattle.rules.proofs.Cases.Sums.{sums}
@@ -54,6 +55,7 @@ demands = record {
   lent-inside = lent-inside;
   keys-kept = keys-kept;
   sizes-kept = sizes-kept;
+  sweeps-told = sweeps-told;
   again = swept-again;
   lent-again = lent-again;
   sums = sums;

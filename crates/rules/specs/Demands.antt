@@ -4,7 +4,7 @@ use Rattle.rules.specs.Demand1.{RequestRefused, LookupRefused, ScanRefus
 use Rattle.rules.specs.Demand1.{RequestKeeps, RunKeeps}
 use Rattle.rules.specs.Demand2.{IsSet, SequenceAnswered, RequestRuled, SequenceRuled}
 use Rattle.rules.specs.Readings.{Table, TableLawful, SplitIs, NoZero, ClimbIs, InsertFinds, CellsAim}
-use Rattle.rules.specs.Demand3.{Inside, KeysKept, SizesKept, Again}
+use Rattle.rules.specs.Demand3.{Inside, KeysKept, SizesKept, SweepsTold, Again}
 use Rattle.rules.specs.Demand3Lent.{LentInside, LentAgain}
 use Rattle.rules.specs.Sums.{Sums}
 
@@ -52,9 +52,10 @@ pub record Demands : Type 0 where
   -- level, times its segments, whatever the forecast said." Over any lawful shares, and of the public calls on what they are lent.
   pub inside : Inside
   pub lent-inside : LentInside
-  -- A sweep loses no key and overfills no segment.
+  -- A sweep loses no key and overfills no segment, and is told exactly where a window was chosen.
   pub keys-kept : KeysKept
   pub sizes-kept : SizesKept
+  pub sweeps-told : SweepsTold
   -- "Suppose a request falling in one half of a window sets off a sweep of that window, and the window was swept before. Counting from its
   -- latest earlier sweep, with only inserts and deletes since, that half has taken more inserts than deletes by over the gap between the two
   -- levels' high shares times its segments, or more deletes than inserts by over the gap between the low shares times its segments. The

@@ -3,12 +3,16 @@
 A group is a function of a random source, a height and the number of the episode. It yields what each call is lent, and is sent what the
 call must return and leave.
 """
+import over
 import records
 import refusals
 import sequences
+import wide
 
-GROUPS = {**sequences.GROUPS, **refusals.GROUPS, **records.GROUPS}
+GROUPS = {**sequences.GROUPS, **refusals.GROUPS, **records.GROUPS, **over.GROUPS, **wide.GROUPS}
+WHOLE = dict(wide=wide.PLACES)      # groups that are worked whole, at every height: so many episodes
 
 REACHED = dict(make=(0, 1, 100), check=(0, 1, 2, 3, 4, 100), lookup=(0, 1, 2, 3, 5, 100), insert=(0, 1, 2, 3, 4, 5, 6, 8, 100),
-               delete=(0, 1, 2, 3, 4, 5, 7, 100), scan=(0, 1, 2, 3, 100), run=(0, 1, 2, 3, 4, 9, 10, 100))
+               delete=(0, 1, 2, 3, 4, 5, 7, 100), scan=(0, 1, 2, 3, 100), run=(0, 1, 2, 3, 4, 9, 10, 100),
+               over=(0, 1, 2, 3, 4, 9, 10))
 ENOUGH = 5000       # calls of all groups that reach all these

@@ -1,4 +1,5 @@
-"""Compares the archive with the model: every answer and all lent memory of COUNT calls, random but for the SEED.
+"""Compares the archive with the model: every answer and all lent memory of COUNT calls, random but for the SEED, and of the groups
+that are worked whole.
 
     python3 tests/compare.py [--groups A,B] [--heights 1,2] [--first] [--again GROUP:HEIGHT:EPISODE] [COUNT [SEED]]
 
@@ -15,7 +16,8 @@ import cases
 import oracle
 import wire
 
-Task = collections.namedtuple("Task", "group height calls seed program episode")
+Task = collections.namedtuple("Task", "group height calls seed program episodes")
+ENDLESS = 10 ** 9
 
 
 def difference(driver, lent):
@@ -68,9 +70,9 @@ class Cell:
 
     def work(self):
         driver = wire.Driver(self.task.program)
-        episode = self.task.episode or 0
-        while self.play(driver, episode) and self.calls < self.task.calls and self.task.episode is None:
-            episode += 1
+        for episode in self.task.episodes:
+            if not self.play(driver, episode) or self.calls >= self.task.calls:
+                break
         if driver.close() != 0 and not self.differences:
             self.differences.append("the driver failed")
         return self
@@ -82,13 +84,15 @@ def work(task):
 
 
 def tasks(args, program):
-    """Calls evenly over groups and heights, the slow heights first."""
+    """The groups that are worked whole; then the calls evenly over the others and the heights, the slow heights first."""
     if args.again:
         group, height, episode = args.again.split(":")
-        return [Task(group, int(height), 10 ** 9, args.seed, program, int(episode))]
+        return [Task(group, int(height), ENDLESS, args.seed, program, [int(episode)])]
     pairs = [(group, height) for height in sorted(args.heights, reverse=True) for group in args.groups]
+    whole = [Task(*pair, ENDLESS, args.seed, program, range(cases.WHOLE[pair[0]])) for pair in pairs if pair[0] in cases.WHOLE]
+    pairs = [pair for pair in pairs if pair[0] not in cases.WHOLE]
     shares = [args.count // len(pairs) + (n < args.count % len(pairs)) for n in range(len(pairs))]
-    return [Task(group, height, calls, args.seed, program, None) for (group, height), calls in zip(pairs, shares) if calls]
+    return whole + [Task(*pair, calls, args.seed, program, range(ENDLESS)) for pair, calls in zip(pairs, shares) if calls]
 
 
 def worked(args):
@@ -114,7 +118,7 @@ def report(cells, groups, heights):
         print("  %-10s" % group, *["%6d" % calls[group, height] for height in heights])
     print("  %-10s" % "all", *["%6d" % sum(calls[group, height] for group in groups) for height in heights])
     print("numbers returned:")
-    for call in wire.CALLS:
+    for call in wire.ASKED:
         print("  %-10s" % call, ", ".join("%d: %d" % (number, n) for (name, number), n in sorted(reached.items()) if name == call))
     return [(call, number) for call, numbers in cases.REACHED.items() for number in numbers if not reached[call, number]]
 

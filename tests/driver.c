@@ -1,15 +1,17 @@
 /* Makes the calls that standard input asks for, and writes back what each returned and all the memory it was lent, with guards.
 
-   Asked, in words of 64 bits, low byte first: the call (1 to 7, in the order of the header), its number (key, from or allowance),
+   Asked, in words of 64 bits, low byte first: the call (1 to 7, in the order of the header; 8, the run over lent totals as a struct),
+   its number (key, from or allowance),
    the lengths of the six slices below in elements; then their contents. A slice that the call does not take is left alone.
    Answered: the word returned; then each slice with GUARD bytes before it and after it, as they now are. */
 #include "ffalwenog.h"
+#include "over.h"
 
 #include <stdio.h>
 #include <stdlib.h>
 
 enum { LIST, FORECAST, REQUESTS, TOTALS, OUTPUT, REPLY, SLICES };
-enum { MAKE = 1, CHECK, LOOKUP, INSERT, DELETE, SCAN, RUN };
+enum { MAKE = 1, CHECK, LOOKUP, INSERT, DELETE, SCAN, RUN, OVER };
 enum { GUARD = 32, MOST = 1 << 20, HEAD = 2 + SLICES };
 
 static const size_t width[SLICES] = {8, 8, 1, 4, 8, 8};
@@ -58,6 +60,9 @@ static uint64_t call(uint64_t ask, uint64_t number, struct slice *s)
     case RUN:
         return ff_run(list, n, forecast, f, s[REQUESTS].content, s[REQUESTS].length, number, s[TOTALS].content, s[TOTALS].length,
                       reply, r);
+    case OVER:
+        must(f == FF_FORECAST && s[TOTALS].length == FF_TOTALS && r >= 4 && has_room(forecast), "no room");
+        return run_over(list, n, forecast, s[REQUESTS].content, s[REQUESTS].length, number, s[TOTALS].content, reply);
     }
     must(0, "no such call");
     return 0;

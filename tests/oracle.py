@@ -4,10 +4,10 @@ from dataclasses import replace
 import model
 
 WRONG_SIZE = 100
-LISTED = dict(make=0, check=0, lookup=2, insert=1, delete=2, scan=2, run=4)     # the words of each call's reply
+LISTED = dict(make=0, check=0, lookup=2, insert=1, delete=2, scan=2, run=4, over=4)     # the words of each call's reply
 FORECAST = 1 + 3 * model.ROOM
 TOTALS = 4
-WITH_FORECAST = ("make", "check", "insert", "delete", "run")
+WITH_FORECAST = ("make", "check", "insert", "delete", "run", "over")
 
 
 def cells(words):
@@ -63,7 +63,7 @@ def run(lent):
 
 
 CHANGES = dict(insert=model.insert, delete=model.delete)
-WORK = dict(make=make, check=check, lookup=lookup, insert=change, delete=change, scan=scan, run=run)
+WORK = dict(make=make, check=check, lookup=lookup, insert=change, delete=change, scan=scan, run=run, over=run)
 
 
 def outcome(lent):

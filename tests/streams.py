@@ -34,11 +34,19 @@ FRESH = [("empty", 1000), ("short", 1000), ("mark", 1000), ("kind", 1000), ("ref
 ONE_LIST = [("moving", 1000), ("again", 1000), ("empty", 0)]
 
 
+BEFORE = [2 ** 32 - 1, 0, 2 ** 32 - 6, 0]
+
+
+def four(numbers):
+    return " ".join(map(str, numbers))
+
+
 def line(name, slots, forecast, allowance):
-    ran = model.run(slots, forecast, STREAMS[name], allowance, [2 ** 32 - 1, 0, 0, 0])
+    ran = model.run(slots, forecast, STREAMS[name], allowance, BEFORE)
     worked, refused, moves, stop, place, slots, forecast, totals = ran
-    told = "%s worked %d refused %d moves %d stop %d place %d totals %s check %d\n" % (
-        name, worked, refused, moves, stop, place, " ".join(map(str, totals)), model.check(slots, forecast))
+    added = [(after - before) % 2 ** 32 for after, before in zip(totals, BEFORE)]
+    told = "%s worked %d refused %d moves %d stop %d place %d totals %s added %s check %d\n" % (
+        name, worked, refused, moves, stop, place, four(totals), four(added), model.check(slots, forecast))
     return told, slots, forecast
 
 

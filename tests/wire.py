@@ -9,6 +9,7 @@ from typing import Sequence
 HERE = os.path.dirname(os.path.abspath(__file__))
 
 CALLS = ("make", "check", "lookup", "insert", "delete", "scan", "run")
+ASKED = CALLS + ("over",)       # over: a run, by the function over lent totals
 SLICES = ("list", "forecast", "requests", "totals", "output", "reply")
 KIND = dict(list="Q", forecast="Q", requests="B", totals="I", output="Q", reply="Q")
 GUARD = bytes(range(0xC0, 0xE0))
@@ -36,7 +37,7 @@ def contents(lent):
 
 
 def question(lent):
-    head = [CALLS.index(lent.call) + 1, lent.number] + [len(slice) for slice in lent.slices()]
+    head = [ASKED.index(lent.call) + 1, lent.number] + [len(slice) for slice in lent.slices()]
     return struct.pack("<8Q", *head) + b"".join(contents(lent))
 
 

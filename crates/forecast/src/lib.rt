@@ -21,6 +21,7 @@ pub struct Cell {
 }
 
 // Room for 12 cells, with the number used: a row of markers, one of segments and one of counts.
+#[repr(C)]
 pub struct Forecast {
     pub markers: [u64; 12],
     pub segments: [u8; 12],

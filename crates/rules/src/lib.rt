@@ -8,6 +8,7 @@ pub enum Request {
 }
 
 // The four totals of runs, each modulo 2^32.
+#[repr(C)]
 pub struct Totals {
     pub worked: u32,
     pub refused: u32,

@@ -8,6 +8,7 @@ use rules::Totals;
 
 // What a run tells: records worked (refused ones included), records refused, moves, the stop number and the byte place; and the forecast
 // that it hands back.
+#[repr(C)]
 pub struct Reply {
     pub worked: usize,
     pub refused: usize,

@@ -203,8 +203,9 @@ pub fn run_with(
     }
 }
 
-// The run, adding to the totals that are lent.
-pub fn run(
+// The run, adding to the totals that are lent. A C program may call it too.
+#[no_mangle]
+pub extern "C" fn ff_run_over(
     list: &mut [u64],
     forecast: Forecast,
     requests: &[u8],

@@ -1,5 +1,5 @@
 // Works the request streams of data/ through the run, each on a list of 256 slots made empty, and writes for each its name, the reply, the
-// four totals, and the number that the check gives of what it left.
+// four totals, their difference to the reading before the run, and the number that the check gives of what it left.
 use forecast::Forecast;
 use libc::STDOUT_FILENO;
 use rules::Totals;
@@ -14,16 +14,21 @@ fn told(name: &[u8], n: u64) {
     io::print_decimal(STDOUT_FILENO, n);
 }
 
-fn tell(reply: Reply, totals: Totals, check: u64) {
+fn four(name: &[u8], totals: Totals) {
+    told(name, totals.worked as u64);
+    told(b" ", totals.refused as u64);
+    told(b" ", totals.moved as u64);
+    told(b" ", totals.sweeps as u64);
+}
+
+fn tell(reply: Reply, totals: Totals, added: Totals, check: u64) {
     told(b" worked ", reply.worked as u64);
     told(b" refused ", reply.refused as u64);
     told(b" moves ", reply.moves);
     told(b" stop ", reply.stop as u64);
     told(b" place ", reply.place as u64);
-    told(b" totals ", totals.worked as u64);
-    told(b" ", totals.refused as u64);
-    told(b" ", totals.moved as u64);
-    told(b" ", totals.sweeps as u64);
+    four(b" totals ", totals);
+    four(b" added ", added);
     told(b" check ", check);
     text(b"\n");
 }
@@ -33,19 +38,20 @@ fn stream(name: &[u8], list: &mut [u64], forecast: Forecast, allowance: u64) -> 
     let mut input = io::large_buffer();
     let fd = os::open_read(name);
     let n = io::read_full(fd, &mut input);
-    let totals = Totals {
+    let before = Totals {
         worked: 4294967295,
         refused: 0,
-        moved: 0,
+        moved: 4294967290,
         sweeps: 0,
     };
-    let done = run::running::run_with(list, forecast, &input[..n], allowance, totals);
+    let done = run::running::run_with(list, forecast, &input[..n], allowance, before);
     let reply = done.reply;
     let left = reply.forecast;
     let answer = list::calls::check(list, left);
     let check = list::telling::check_number(answer);
     text(name);
-    tell(reply, done.totals, check);
+    let after = done.totals;
+    tell(reply, after, run::totals::difference(after, before), check);
     left
 }
 

@@ -1,4 +1,4 @@
--- `run` meets its contract, by a walk of its instructions: the borrow of the totals is opened, the whole record is copied out and passed to
+-- `ff_run_over` meets its contract, by a walk of its instructions: the borrow of the totals is opened, the whole record is copied out and passed to
 -- `run_with`, the totals that it returned are stored whole, and the borrow is closed at them. Of `run_with` only its contract is used.
 use mathlib.Core.Path.{_≡_, refl, ap}
 use Prim.Native.Nat.{ℕ, _<_, _^_}
@@ -58,10 +58,10 @@ use Rattle.run.proofs.running.run_with as core
 use Rattle.run.proofs.running.run_with.Symbol as core-def
 use Rattle.run.proofs.running.run_with.Symbol.{name as #run·run-with}
 use Rattle.run.proofs.running.run_with.Met as core-thm
-use Rattle.run.proofs.running.run.Key.{name as #run·run}
-use Rattle.run.proofs.running.run as f
-use Rattle.run.proofs.running.run.Statement as stated
-use Rattle.run.proofs.running.run.Code as code
+use Rattle.run.proofs.running.ff_run_over.Key.{name as #run·ff-run-over}
+use Rattle.run.proofs.running.ff_run_over as f
+use Rattle.run.proofs.running.ff_run_over.Statement as stated
+use Rattle.run.proofs.running.ff_run_over.Code as code
 
 abbrev stayed : Stays (f.ended .signature .params) (f.ended .kept)
 stayed = (gave-slice (0 ∷ []) tt (plain (λ _. u64)), (stay-none (λ _. Forecast·T.the-row) yes, (stay-none-slice (1 ∷ []) tt (plain (λ _. u8)) yes, (stay-none (λ _. u64) yes, (stay-ref (2 ∷ []) tt (plain (λ _. Totals·T.the-row)), tt)))))
@@ -148,10 +148,10 @@ module _ {M : Type 1} (𝓤 : URA M) (H : Heap 𝓤) (A : Atoms 𝓤) (W : Given
 meets : {M : Type 1} (𝓤 : URA M) (H : Heap 𝓤) (A : Atoms 𝓤) → Given 𝓤 H A → (at-mem : Memory → SProp 𝓤) (run : Routine → Fun 𝓤) (𝓣 : Tables 𝓤 H) → Triple 𝓤 (𝓣 .C #run·run-with) (Core 𝓤 H A at-mem run) → Meets 𝓤 H A f.signature (WpFn 𝓤 H (𝓣 .C) (𝓣 .Λ) code.function) (f.spec 𝓤 H A at-mem run)
 meets 𝓤 H A W at-mem run 𝓣 known = walk-meets 𝓤 H A f.ended stayed W (goes 𝓤 H A W at-mem run) (f.clauses 𝓤 H A at-mem run) (WpFn 𝓤 H (𝓣 .C) (𝓣 .Λ) code.function) (WpFn-mono 𝓤 H (W .laws) 𝓣 code.function) (walks 𝓤 H A W at-mem run (𝓣 .C) (𝓣 .Λ) (fmOf 𝓤 H (W .laws) 𝓣) known)
 
-pub run-spec : {M : Type 1} → stated.statement M
+pub ff-run-over-spec : {M : Type 1} → stated.statement M
 unfolding code.routine tablesOf
-run-spec 𝓤 H 𝓜 𝓖 𝓡 =
+ff-run-over-spec 𝓤 H 𝓜 𝓖 𝓡 =
     entered 𝓤 H (tripleOf 𝓤 H (𝓖 .A) f.signature (f.spec 𝓤 H (𝓖 .A) (𝓜 .mem) (𝓡 .run)))
-    (tables 𝓤 H 𝓜 𝓡 code.env .C) (tables 𝓤 H 𝓜 𝓡 code.env .Λ) #run·run code.function (code.unfolded 𝓤 H 𝓜 𝓡)
+    (tables 𝓤 H 𝓜 𝓡 code.env .C) (tables 𝓤 H 𝓜 𝓡 code.env .Λ) #run·ff-run-over code.function (code.unfolded 𝓤 H 𝓜 𝓡)
     (meets 𝓤 H (𝓖 .A) (givenOf 𝓤 H 𝓜 𝓖) (𝓜 .mem) (𝓡 .run) (tablesOf 𝓤 H 𝓜 (tables 𝓤 H 𝓜 𝓡 code.env))
     (cited 𝓤 H (Core 𝓤 H (𝓖 .A) (𝓜 .mem) (𝓡 .run)) 𝓜 𝓡 code.env #run·run-with core-def.routine code.calls-run·running·run-with (core-thm.met 𝓤 H 𝓜 𝓖 𝓡)))

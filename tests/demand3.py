@@ -1,0 +1,180 @@
+"""Demand 3 of the model, tried on random histories by a recorder that keeps every request and counts anew at each sweep.
+
+    python3 tests/demand3.py [COUNT [SEED]]     COUNT requests at each height, in histories from good lists; the forecast changes hands
+"""
+import collections
+import random
+import sys
+
+import model
+import oracle
+import sequences
+from hand import Hand
+from starts import TOP, any_counts, overfull, some_forecast, thin, underfull
+
+STARTS = (overfull, underfull, any_counts, thin)
+WORK = dict(insert=model.work_insert, delete=model.work_delete)
+
+
+def near(hand, kind, keys):
+    """A request by one of the keys: that it go, or that one a little greater come."""
+    key = hand.rng.choice(keys or [hand.a_key()])
+    return kind, key if kind == "delete" else min(TOP, key + hand.rng.randint(1, 1000))
+
+
+def tide(here, elsewhere):
+    """A segment runs full, or dry, and the window round it with it, while as much goes or comes outside that."""
+    def mood(hand):
+        while True:
+            at, level = hand.rng.randrange(2 ** hand.h), hand.rng.randrange(hand.h)
+            start, size = at >> level << level, 2 ** level
+            for _ in range(60 * size):
+                segments = model.to_segments(hand.list)
+                yield near(hand, here, segments[at] or sum(segments[start:start + size], []))
+                yield near(hand, elsewhere, sum(segments[:start] + segments[start + size:], []))
+    return mood
+
+
+TIDES = (tide("insert", "delete"), tide("delete", "insert"))
+MOODS = TIDES + (sequences.rising, sequences.falling, sequences.behind, sequences.before, sequences.storm, sequences.marks)
+
+
+def high(h, level):
+    return model.TABLE[h][0][level]
+
+
+def low(h, level):
+    return model.TABLE[h][1][level]
+
+
+def segment_of_request(kind, slots, key):
+    """Where a request falls: the segment of the key, or of the largest live key below it."""
+    places = [place for place, live in enumerate(slots) if live and (live < key or kind == "delete" and live == key)]
+    return places[-1] // model.SEGMENT if places else 0
+
+
+def inside(window, level, start):
+    """Whether the window of this level that begins at this segment is the swept one, or lies in it."""
+    return window is not None and window[0] >= level and window[1] <= start < window[1] + 2 ** window[0]
+
+
+class Recorder:
+    """Every request that was worked: its segment, 1 or -1, and the chosen window if there is one."""
+
+    def __init__(self, h, tally):
+        self.h, self.tally = h, tally
+        self.past = []
+        self.again = collections.Counter()      # windows swept again, by level and kind
+
+    def worked(self, kind, segment, window, moves, before, after):
+        self.past.append((segment, 1 if kind == "insert" else -1, window))
+        if window:
+            self.held(window, moves, before, after)
+            for level in range(1, window[0] + 1):
+                self.swept(level, segment, kind)
+
+    def held(self, window, moves, before, after):
+        """After a sweep every window strictly inside is within its parent's shares; nothing outside has changed."""
+        level, start = window
+        first, end = start * model.SEGMENT, (start + 2 ** level) * model.SEGMENT
+        counts = [sum(key > 0 for key in after[n:n + model.SEGMENT]) for n in range(0, len(after), model.SEGMENT)]
+        for l in range(level):
+            for s in range(start, start + 2 ** level, 2 ** l):
+                keys = sum(counts[s:s + 2 ** l])
+                self.tally.same("held by window %d of level %d" % (s, l), low(self.h, l + 1) <= keys / 2 ** l <= high(self.h, l + 1), True)
+        self.tally.same("outside", before[:first] + before[end:], after[:first] + after[end:])
+        self.tally.same("moves of a sweep", moves, sum(counts[start:start + 2 ** level]))
+
+    def swept(self, level, segment, kind):
+        """A window that is swept again: the half has taken more than the gap since the latest earlier sweep, the present request too."""
+        start = segment >> level << level
+        sweeps = [n for n, past in enumerate(self.past[:-1]) if inside(past[2], level, start)]
+        if not sweeps:
+            return
+        since = self.past[sweeps[-1] + 1:]
+        size = 2 ** (level - 1)
+        taken = sum(net for place, net, _ in since if place // size == segment // size)
+        over_high = taken > (high(self.h, level - 1) - high(self.h, level)) * size
+        over_low = -taken > (low(self.h, level) - low(self.h, level - 1)) * size
+        self.tally.same("taken at level %d: %d" % (level, taken), over_high or over_low, True)
+        self.again[level, kind] += 1
+
+
+def work(recorder, hand, kind, key):
+    """One request; the model tells whether it is worked, and the window."""
+    before = hand.list
+    number, moves, _, window, after, forecast = WORK[kind](before, oracle.cells(hand.forecast), key)
+    if number == 0:
+        recorder.worked(kind, segment_of_request(kind, before, key), window, moves, before, after)
+    hand.list, hand.forecast = after, oracle.words(forecast)
+
+
+def history(rng, recorder, length):
+    """Moods by turns; now and then another forecast is lent, or an empty one."""
+    hand = Hand(rng, recorder.h, rng.choice(STARTS))
+    recorder.past = []
+    moods, left = rng.choice((TIDES, MOODS)), 0
+    for _ in range(length):
+        if left == 0:
+            left, mood = rng.randint(20, 100 * 2 ** (recorder.h // 2)), rng.choice(moods)(hand)
+        left -= 1
+        way = rng.random()
+        if way < 0.1:
+            hand.forecast = some_forecast(rng, recorder.h, hand.list, 0 if way < 0.03 else None)
+        work(recorder, hand, *next(mood))
+        if rng.random() < 0.05:
+            hand.focus = hand.one_live()
+
+
+def played(h, tally, requests, lists=None):
+    """A history of requests by hand, from an empty list or this one; None among them is an empty forecast lent."""
+    recorder, hand = Recorder(h, tally), Hand(random.Random(0), h)
+    hand.list, nothing = lists or [0] * (model.SEGMENT * 2 ** h), [0] * oracle.FORECAST
+    hand.forecast = nothing
+    for request in requests:
+        if request is None:
+            hand.forecast = nothing
+        else:
+            work(recorder, hand, *request)
+    return dict(recorder.again)
+
+
+def each(kind, keys):
+    return [(kind, key) for key in keys]
+
+
+def by_hand(tally):
+    """A forecast that changes hands before a window is swept again; and a window swept again by a delete."""
+    got = played(2, tally, each("insert", range(1, 66)) + [None] + each("insert", range(66, 114)))
+    tally.same("another forecast", got, {(1, "insert"): 1})
+    two = model.to_slots([list(range(1, 8)), list(range(101, 131))])
+    swept = each("delete", [1]) + each("insert", range(200, 208)) + each("delete", list(range(2, 8)) + list(range(101, 107)))
+    tally.same("by a delete", played(1, tally, swept, two), {(1, "delete"): 1})
+
+
+def at_height(rng, h, count, tally):
+    """So many requests. Gives how many windows of each level were swept again by inserts, and by deletes."""
+    recorder = Recorder(h, tally)
+    while count > 0:
+        length = min(count, 150 * h + 100)
+        history(rng, recorder, length)
+        count -= length
+    return [[recorder.again[level, kind] for level in range(1, h + 1)] for kind in WORK]
+
+
+def main(args):
+    count = int(args[0]) if args else 2000
+    rng = random.Random(int(args[1]) if len(args) > 1 else 1)
+    tally = model.Tally()
+    by_hand(tally)
+    print("windows swept again, level 1 first: by inserts, by deletes")
+    again = []
+    for h in range(1, 7):
+        again.append(at_height(rng, h, count, tally))
+        print("  height %d:" % h, *again[-1])
+    tally.same("swept again by either", [sum(sum(told[way]) for told in again) > 0 for way in (0, 1)], [True, True])
+    return tally.close()
+
+
+if __name__ == "__main__":
+    sys.exit(main(sys.argv[1:]))

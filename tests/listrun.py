@@ -1,0 +1,108 @@
+"""Runs the program `listrun` on inputs of many lengths, by file and by a slow pipe: what it writes is the model's, and the rest stays unread.
+
+FF_LISTRUN names the program, FF_EMULATOR the emulator if there is one (tests/run sets them).
+"""
+import os
+import random
+import subprocess
+import sys
+import tempfile
+import threading
+import time
+
+import model
+
+MOST = 65536
+
+
+def changes(n):
+    """n records, inserts and deletes, most of them worked."""
+    rng = random.Random(n)
+    live, data = [], []
+    for _ in range(n):
+        kind = 2 if live and rng.random() < len(live) / 140 else 1
+        key = rng.choice(live) if kind == 2 or live and rng.random() < 0.05 else rng.randint(1, 2 ** 64 - 1)
+        if kind == 2:
+            live.remove(key)
+        elif key not in live and len(live) < model.most_keys(2):
+            live.append(key)
+        data.append(model.record(kind, key))
+    return b"".join(data)
+
+
+LONG = changes(7000)
+SHORT = changes(3)
+INPUTS = {
+    "nothing": b"",
+    "one byte": LONG[:1],
+    "a short record": SHORT[:-1],
+    "a wrong kind": SHORT + model.record(3, 5) + SHORT,
+    "a wrong mark": SHORT + b"\x5a\xa5" + model.record(1, 5)[2:] + SHORT,
+    "sum 1": b"".join(model.record(1, key) for key in range(1, 66)),
+    "the last whole record": LONG[:MOST - MOST % model.RECORD],
+    "65,535 bytes": LONG[:MOST - 1],
+    "65,536 bytes": LONG[:MOST],
+    "65,537 bytes": LONG[:MOST + 1],
+    "77,000 bytes": LONG,
+}
+
+
+def program(stdin):
+    """What it writes, when it ends with 0."""
+    before = [os.environ["FF_EMULATOR"]] if os.environ.get("FF_EMULATOR") else []
+    ran = subprocess.run(before + [os.environ["FF_LISTRUN"]], stdin=stdin, stdout=subprocess.PIPE, timeout=120)
+    return ran.stdout.decode() if ran.returncode == 0 else "ended with %d" % ran.returncode
+
+
+def by_file(data):
+    """What it writes, and what it leaves unread."""
+    with tempfile.TemporaryFile(buffering=0) as f:
+        f.write(data)
+        f.seek(0)
+        return program(f), f.read()
+
+
+def written_slowly(end, data):
+    """In parts of any size, with pauses."""
+    rng = random.Random(len(data))
+    with open(end, "wb", buffering=0) as f:
+        while data:
+            part = rng.choice((1, 10, 11, 1000, 4096, 9999))
+            f.write(data[:part])
+            data = data[part:]
+            time.sleep(rng.choice((0, 0.001, 0.01)))
+
+
+def by_slow_pipe(data):
+    """The same; the rest is read when the program has ended."""
+    out, into = os.pipe()
+    writer = threading.Thread(target=written_slowly, args=(into, data))
+    writer.start()
+    with open(out, "rb") as f:
+        told = program(f)
+        rest = f.read()
+    writer.join()
+    return told, rest
+
+
+def by_directory(data):
+    """An input of which nothing can be read."""
+    end = os.open("/", os.O_RDONLY)
+    try:
+        return program(end), data
+    finally:
+        os.close(end)
+
+
+def main():
+    tally = model.Tally()
+    for name, data in INPUTS.items():
+        wanted = model.listrun_text(data[:MOST]), data[MOST:]
+        for way in (by_file, by_slow_pipe):
+            tally.same("%s, %s" % (name, way.__name__), way(data), wanted)
+    tally.same("a failed read is the end", by_directory(b""), (model.listrun_text(b""), b""))
+    return tally.close()
+
+
+if __name__ == "__main__":
+    sys.exit(main())

@@ -1,0 +1,51 @@
+"""Calls that are lent a forecast with one word far too great for its place: every place, by every call that reads a forecast.
+
+A word that is cut to fewer bits, or kept at their greatest number, may look right: so the numbers are those that a byte or a word of 32
+bits would take for the right one, and the ends of these.
+"""
+from dataclasses import replace
+
+import damage
+import oracle
+from hand import Hand
+from refusals import keyed
+from sequences import packed
+from starts import TOP, some_forecast
+
+READING = ("check", "insert", "delete", "run")
+STATES = 2          # all cells used that may be, or fewer
+
+
+def values(right):
+    """What else stands in the place of the right number."""
+    alike = {(right + step) % (TOP + 1) for step in (256, 2 ** 32, 2 ** 63)}
+    return sorted({255, 256, 2 ** 32, TOP} | alike - {right})
+
+
+def asked(hand, call):
+    """A call that would be done, but for the forecast."""
+    number = dict(check=0, insert=hand.a_key(), delete=hand.one_live(), run=TOP)[call]
+    return hand.lend(call, number, requests=packed("insert", hand.a_key()) + packed("delete", hand.one_live()))
+
+
+def with_word(lent, place, value):
+    return replace(lent, forecast=lent.forecast[:place] + [value] + lent.forecast[place + 1:])
+
+
+def one_place(rng, h, n):
+    """Every number in one place, by every call; then on a list that is refused before its forecast, and to a call that overwrites it."""
+    state, place = divmod(n % PLACES, oracle.FORECAST)
+    hand = Hand(rng, h, keyed)
+    hand.forecast = some_forecast(rng, h, hand.list, 6 + h if state == 0 else rng.randrange(6 + h))
+    others = values(hand.forecast[place])
+    for value in others:
+        for call in READING:
+            yield with_word(asked(hand, call), place, value)
+    yield with_word(hand.lend("make"), place, rng.choice(others))
+    lent = asked(hand, rng.choice(READING))
+    rng.choice(damage.LISTS)(hand)
+    yield with_word(replace(lent, list=hand.list), place, rng.choice(others))
+
+
+PLACES = STATES * oracle.FORECAST
+GROUPS = dict(wide=one_place)

@@ -3,7 +3,8 @@ that are worked whole.
 
     python3 tests/compare.py [--groups A,B] [--heights 1,2] [--first] [--again GROUP:HEIGHT:EPISODE] [COUNT [SEED]]
 
-FF_CC, FF_ARCHIVE and FF_EMULATOR name the compiler, the archive and the emulator if there is one (tests/run sets them).
+FF_CC, FF_ARCHIVE, FF_RUN_ARCHIVE and FF_EMULATOR name the compiler, the archives of `host` and `run`, and the emulator if there is one
+(tests/run sets them).
 """
 import argparse
 import collections

@@ -126,30 +126,32 @@ def history(rng, recorder, length):
             hand.focus = hand.one_live()
 
 
-def played(h, tally, requests, lists=None):
-    """A history of requests by hand, from an empty list or this one; None among them is an empty forecast lent."""
-    recorder, hand = Recorder(h, tally), Hand(random.Random(0), h)
-    hand.list, nothing = lists or [0] * (model.SEGMENT * 2 ** h), [0] * oracle.FORECAST
-    hand.forecast = nothing
+def played(tally, segments, requests):
+    """A history by hand, on a list of these segments: requests, and the cells of forecasts that are lent from there on."""
+    hand = Hand(random.Random(0), len(segments).bit_length() - 1)
+    recorder = Recorder(hand.h, tally)
+    hand.list, hand.forecast = model.to_slots(segments), oracle.words(model.as_forecast([]))
     for request in requests:
-        if request is None:
-            hand.forecast = nothing
+        if isinstance(request, list):
+            hand.forecast = oracle.words(model.as_forecast(request))
         else:
             work(recorder, hand, *request)
     return dict(recorder.again)
 
 
-def each(kind, keys):
+def each(kind, *keys):
     return [(kind, key) for key in keys]
 
 
 def by_hand(tally):
-    """A forecast that changes hands before a window is swept again; and a window swept again by a delete."""
-    got = played(2, tally, each("insert", range(1, 66)) + [None] + each("insert", range(66, 114)))
-    tally.same("another forecast", got, {(1, "insert"): 1})
-    two = model.to_slots([list(range(1, 8)), list(range(101, 131))])
-    swept = each("delete", [1]) + each("insert", range(200, 208)) + each("delete", list(range(2, 8)) + list(range(101, 107)))
-    tally.same("by a delete", played(1, tally, swept, two), {(1, "delete"): 1})
+    """Windows swept again: the forecast changed hands before; by a delete; and the request of the earlier sweep would make it too few."""
+    rising = each("insert", *range(1, 66)) + [[]] + each("insert", *range(66, 114))
+    tally.same("another forecast", played(tally, [[], [], [], []], rising), {(1, "insert"): 1})
+    ebb = each("delete", 1) + each("insert", *range(200, 208)) + each("delete", *range(2, 8), *range(101, 107))
+    tally.same("by a delete", played(tally, [list(range(1, 8)), list(range(101, 131))], ebb), {(1, "delete"): 1})
+    turned = [[[590, 1, 8]]] + each("delete", 70) + each("insert", *range(1, 10), *range(11, 19))
+    tally.same("by an insert after a delete", played(tally, [list(range(10, 80, 10)), list(range(80, 600, 10)), [], []], turned),
+               {(1, "insert"): 1})
 
 
 def at_height(rng, h, count, tally):

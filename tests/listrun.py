@@ -1,6 +1,6 @@
 """Runs the program `listrun` on inputs of many lengths, by file and by a slow pipe: what it writes is the model's, and the rest stays unread.
 
-FF_LISTRUN names the program, FF_EMULATOR the emulator if there is one (tests/run sets them).
+FF_LISTRUN names the program, FF_TOOLS the folder with its loader, FF_EMULATOR the emulator if there is one (tests/run sets them).
 """
 import os
 import random
@@ -49,8 +49,9 @@ INPUTS = {
 
 def program(stdin):
     """What it writes, when it ends with 0."""
-    before = [os.environ["FF_EMULATOR"]] if os.environ.get("FF_EMULATOR") else []
-    ran = subprocess.run(before + [os.environ["FF_LISTRUN"]], stdin=stdin, stdout=subprocess.PIPE, timeout=120)
+    library = os.path.join(os.environ["FF_TOOLS"], "lib")
+    words = [os.environ["FF_EMULATOR"], os.path.join(library, "ld-linux-x86-64.so.2"), "--library-path", library, os.environ["FF_LISTRUN"]]
+    ran = subprocess.run([word for word in words if word], stdin=stdin, stdout=subprocess.PIPE, timeout=120)
     return ran.stdout.decode() if ran.returncode == 0 else "ended with %d" % ran.returncode
 
 
@@ -85,11 +86,11 @@ def by_slow_pipe(data):
     return told, rest
 
 
-def by_directory(data):
-    """An input of which nothing can be read."""
+def by_directory():
+    """What it writes when nothing can be read."""
     end = os.open("/", os.O_RDONLY)
     try:
-        return program(end), data
+        return program(end)
     finally:
         os.close(end)
 
@@ -97,10 +98,12 @@ def by_directory(data):
 def main():
     tally = model.Tally()
     for name, data in INPUTS.items():
-        wanted = model.listrun_text(data[:MOST]), data[MOST:]
+        wanted = model.listrun_text(data[:MOST])
         for way in (by_file, by_slow_pipe):
-            tally.same("%s, %s" % (name, way.__name__), way(data), wanted)
-    tally.same("a failed read is the end", by_directory(b""), (model.listrun_text(b""), b""))
+            told, rest = way(data)
+            tally.same("%s, %s" % (name, way.__name__), told, wanted)
+            tally.same("unread of %s, %s" % (name, way.__name__), (len(rest), rest == data[MOST:]), (len(data[MOST:]), True))
+    tally.same("a failed read is the end", by_directory(), model.listrun_text(b""))
     return tally.close()
 
 

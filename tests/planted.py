@@ -2,7 +2,8 @@
 
     python3 tests/planted.py [SEED]
 
-A file there says what the slip is, the file to edit, the groups of calls to try, and pairs of old and new text, \\n for a line's end.
+A file there says what the slip is, the file to edit, the groups of calls to try (or `by`, another of the tests that finds it), and pairs
+of old and new text, \\n for a line's end.
 """
 import concurrent.futures
 import os
@@ -39,15 +40,19 @@ def copied(folder):
     return os.path.join(folder, "tests")
 
 
-def first_difference(seed, groups, count, edit=None):
-    """The first difference that a copy of the tests tells of, or None; and all that it writes."""
+def first_difference(words, edit=None):
+    """The first difference that a test in a copy of the tests tells of, or None; and all that it writes. words: its file and arguments."""
     with tempfile.TemporaryDirectory() as folder:
         tests = copied(folder)
         if edit:
             edit(tests)
-        command = [sys.executable, os.path.join(tests, "compare.py"), "--first", "--groups", groups, str(count), str(seed)]
+        command = [sys.executable, os.path.join(tests, words[0])] + words[1:]
         told = subprocess.run(command, stdout=subprocess.PIPE, stderr=subprocess.STDOUT, text=True).stdout
-    return next((line for line in told.splitlines() if line.startswith("DIFFERS")), None), told
+    return next((line for line in told.splitlines() if line.startswith(("DIFFERS", "FAILED"))), None), told
+
+
+def compared(groups, count, seed):
+    return ["compare.py", "--first", "--groups", groups, str(count), seed]
 
 
 def found(name, seed):
@@ -62,13 +67,14 @@ def found(name, seed):
         with open(path, "w") as f:
             f.write(text)
 
-    return asked["why"], *first_difference(seed, asked["groups"], MOST, edit)
+    words = [asked["by"], str(MOST // 10), seed] if "by" in asked else compared(asked["groups"], MOST, seed)
+    return asked["why"], *first_difference(words, edit)
 
 
 def main(args):
-    seed = int(args[0]) if args else 1
+    seed = args[0] if args else "1"
     names = sorted(os.listdir(FOLDER))
-    _, told = first_difference(seed, "anywhere,sizes", 200)
+    _, told = first_difference(compared("anywhere,sizes", 200, seed))
     failed = "200 calls, 0 differences" not in told
     print("nothing planted: " + ("FOUND SOMETHING\n" + told if failed else "nothing found"))
     with concurrent.futures.ThreadPoolExecutor(2) as pool:

@@ -73,11 +73,11 @@ def place(got, wanted, words):
 
 
 def build(folder):
-    """Builds the driver that stands beside this file, with the compiler FF_CC and the archive FF_ARCHIVE."""
+    """Builds the driver that stands beside this file, with the compiler FF_CC and the archives FF_ARCHIVE and FF_RUN_ARCHIVE."""
     program = os.path.join(folder, "driver")
     subprocess.run([os.environ["FF_CC"], "-std=c11", "-O2", "-Wall", "-Wextra", "-Werror", "-static",
                     "-I", os.path.join(HERE, "..", "include"), os.path.join(HERE, "driver.c"), os.environ["FF_ARCHIVE"],
-                    "-o", program], check=True)
+                    os.environ["FF_RUN_ARCHIVE"], "-o", program], check=True)
     return program
 
 

@@ -2,6 +2,8 @@
 #   need COMMAND PACKAGE..   installs these packages of Debian's where the command is missing
 #   need_compilers           sees to $x86cc and $x86cxx, compilers for x86-64
 #   need_archive             proves crate `host` and sets $archive to its archive (FF_ARCHIVE: another one instead)
+#   need_run_archive         the same of crate `run`: $run_archive (FF_RUN_ARCHIVE)
+#   need_program NAME        proves a program and sets $program to it; it is started by the loader of $tools, the kit's folder
 #   x86 PROGRAM ARG..        runs a statically linked x86-64 program; on an Arm machine under the kit's emulator
 
 x86cc=x86_64-linux-gnu-gcc x86cxx=x86_64-linux-gnu-g++
@@ -23,13 +25,28 @@ need_compilers() {
     fi
 }
 
-need_archive() {
-    archive=${FF_ARCHIVE:-$root/target/staticlib/libhost.a}
-    [ -n "${FF_ARCHIVE:-}" ] || (cd "$root" && rt staticlib host >&2)
+in_root() {
+    (cd "$root" && "$@" >&2)
 }
 
+need_archive() {
+    archive=${FF_ARCHIVE:-$root/target/staticlib/libhost.a}
+    [ -n "${FF_ARCHIVE:-}" ] || in_root rt staticlib host
+}
+
+need_run_archive() {
+    run_archive=${FF_RUN_ARCHIVE:-$root/target/staticlib/librun.a}
+    [ -n "${FF_RUN_ARCHIVE:-}" ] || in_root rt staticlib run
+}
+
+need_program() {
+    program=$root/target/bin/$1
+    in_root rt check "$1"
+}
+
+tools=$(dirname "$(dirname "$(rt doc)")")/on/$(uname -m)/toolchain
 emulator=''
-[ "$(uname -m)" = x86_64 ] || emulator=$(dirname "$(dirname "$(rt doc)")")/on/$(uname -m)/toolchain/bin/qemu-x86_64
+[ "$(uname -m)" = x86_64 ] || emulator=$tools/bin/qemu-x86_64
 
 x86() {
     ${emulator:+"$emulator"} "$@"

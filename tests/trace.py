@@ -1,4 +1,5 @@
-"""Sees that every name, file and must-fail edit that docs/TRACE.md cites is in the tree, and that it cites every edit of the tree.
+"""Sees that every name, file and must-fail edit that docs/TRACE.md cites is in the tree, that it cites every edit of the tree, and that
+each of these can be made.
 
     python3 tests/trace.py [FILE]
 
@@ -51,7 +52,7 @@ class Reader:
 
     def crates_in(self, text):
         """The crates that a text quotes."""
-        heads = [re.split(r"::|/", quoted)[0] if not quoted.startswith("crates/") else quoted.split("/")[1] for quoted in QUOTED.findall(text)]
+        heads = [re.split(r"::|/", re.sub("^crates/", "", quoted))[0] for quoted in QUOTED.findall(text)]
         return [head for head in heads if head in self.tree.crates]
 
     def row(self, line, number, heads):
@@ -83,7 +84,10 @@ class Reader:
             self.read_piece(piece)
         for label, crates in sorted(self.tree.edits.items()):
             for crate in crates:
-                self.check((crate, label) in self.cited, "crates/%s/must-fail/%s.edit" % (crate, label), "is not cited")
+                edit = "crates/%s/must-fail/%s.edit" % (crate, label)
+                self.check((crate, label) in self.cited, edit, "is not cited")
+                why = self.tree.unfit(crate, label)
+                self.check(not why, edit, why)
         return self
 
     def read_piece(self, piece):
@@ -115,6 +119,10 @@ class Reader:
         mine = [thing for thing, crate in crates_of if crate in self.piece.crates]
         return mine or ([] if self.piece.strict and self.piece.crates else [thing for thing, _ in crates_of])
 
+    def asked(self):
+        """The crates that a file or an edit is looked for in."""
+        return self.crate or ", ".join(dict.fromkeys(self.piece.crates))
+
     def cite(self, label):
         """An edit; the row may name no crate of it, if its label is the only one."""
         crates = self.tree.edits.get(label, [])
@@ -123,7 +131,7 @@ class Reader:
         mine = self.among([(crate, crate) for crate in crates])
         if not mine and not self.crate and len(crates) == 1:
             mine = crates
-        self.check(mine, self.at, "the edit %s is of %s, not of %s" % (label, ", ".join(crates), self.crate or ", ".join(self.piece.crates)))
+        self.check(mine, self.at, "the edit %s is of %s, not of %s" % (label, ", ".join(crates), self.asked()))
         self.cited |= {(crate, label) for crate in mine}
 
     def stem(self, word, may_be_prose):
@@ -131,7 +139,7 @@ class Reader:
         every = self.tree.stems.get(word, [])
         self.files = self.among([(path, tree.crate_of(path)) for path in every]) or None
         if self.files is None and not may_be_prose:
-            of = self.crate or ", ".join(dict.fromkeys(self.piece.crates)) or "any crate"
+            of = self.asked() or "any crate"
             self.check(False, self.at, "no file %s.antt of %s%s" % (word, of, self.elsewhere(every) or self.alike(word, self.tree.stems)))
 
     def quoted(self, text):
@@ -157,7 +165,10 @@ class Reader:
             self.files = [path + ".rt"]
             return self.check(True, self.at, "")
         self.files = [os.path.dirname(path) + (".rt" if len(parts) > 2 else "/lib.rt")]
-        self.name(parts[-1])
+        if self.files[0] in self.tree.files:
+            return self.name(parts[-1])
+        self.check(False, self.at, "no file %s%s" % (self.files[0], self.elsewhere(self.tree.where(parts[-1]))))
+        self.files = None
 
     def file(self, text):
         """A path; the names after it stand there."""

@@ -55,6 +55,26 @@ def below(folder, ending):
     return sorted(os.path.join(at, name) for at, _, names in os.walk(folder) for name in names if name.endswith(ending))
 
 
+def unfit(folder, path):
+    """Why an edit cannot be made in its crate; or None."""
+    texts, file, old = {}, None, None
+    for line in lines(path):
+        word, _, value = line.partition(":")
+        value = value[1:]
+        if word == "file":
+            file = value
+            if not os.path.exists(os.path.join(folder, file)):
+                return "edits %s, which is not there" % file
+            texts.setdefault(file, "\n".join(lines(os.path.join(folder, file))))
+        elif word == "old":
+            old = value
+        elif word == "new":
+            if texts[file].count(old) != 1:
+                return "edits '%s', which stands %d times in %s" % (old, texts[file].count(old), file)
+            texts[file] = texts[file].replace(old, value)
+    return None
+
+
 class Tree:
     """files: path (from the root) to names; stems: file name without ending to paths; edits: label to crates."""
 
@@ -76,6 +96,10 @@ class Tree:
 
     def every_name(self):
         return {name for names in self.files.values() for name in names}
+
+    def unfit(self, crate, label):
+        folder = os.path.join(self.root, "crates", crate)
+        return unfit(folder, os.path.join(folder, "must-fail", label + ".edit"))
 
 
 def crate_of(path):

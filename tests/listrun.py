@@ -1,4 +1,4 @@
-"""Runs the program `listrun` on inputs of many lengths, by file and by a slow pipe: it writes what the model does, and the rest stays unread.
+"""Runs `listrun` on inputs of many lengths, by file and by a slow pipe: it writes what the model does, and leaves the rest unread.
 
 FF_LISTRUN names the program, FF_TOOLS the folder with its loader, FF_EMULATOR the emulator if there is one (tests/run sets them).
 """

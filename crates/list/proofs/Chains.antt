@@ -1,8 +1,7 @@
 -- Any chain of calls that the promises admit is what the calls of `rules` tell and leave, so demand 2 holds of it.
 use mathlib.Core.Path.{_≡_, refl, sym, ap, ap₂, subst, _∙_}
-use mathlib.Core.List.{List, [], _∷_}
-use Prim.Native.Nat.{ℕ, _*_, _^_, _≤_}
-use lib.ListN.{length}
+use mathlib.Core.List.{List, _∷_}
+use Prim.Native.Nat.{ℕ}
 use Rattle.slots.specs.Segments.{live}
 use Rattle.rules.specs.Shares.{shares}
 use Rattle.rules.specs.Placing.{Answer}

@@ -1,16 +1,15 @@
 -- Demand 2, second sentence: slots, forecast and moves are those of the rules, for one request and from make on.
 use mathlib.Core.Path.{_≡_, refl, sym, ap, ap₂, subst, _∙_}
 use mathlib.Core.List.{List, [], _∷_}
-use Prim.Native.Nat.{ℕ, _*_, _^_, _≤_}
+use Prim.Native.Nat.{ℕ, _≤_}
 use lib.ListN.{length}
 use Rattle.slots.specs.Segments.{heightOf, render}
-use Rattle.forecast.specs.declared.Forecast.{Forecast}
 use Rattle.forecast.specs.Cells.{forecastOf}
 use Rattle.rules.specs.declared.Request.{Request}
 use Rattle.rules.specs.declared.Request.the-variants.{Insert, Delete}
 use Rattle.rules.specs.Shares.{shares}
 use Rattle.rules.specs.Placing.{Room, Outcome, outcome}
-use Rattle.rules.specs.Checks.{sharesOf, check}
+use Rattle.rules.specs.Checks.{sharesOf}
 use Rattle.rules.specs.Calls.{roomOf, Called, request, changed, Made}
 use Rattle.rules.specs.PlainSet as set
 use Rattle.rules.specs.Demand2.{Held, after, afterAll, made, ruled, ruledMoves, ruledAll, allRuledMoves, emptyRoom, moves, allMoves, AsRuled, RequestRuled, Stands, SequenceRuled}

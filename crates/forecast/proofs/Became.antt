@@ -5,14 +5,14 @@ use mathlib.Core.List.{List}
 use native.Mathlib.Decide.{decLt}
 use native.Mathlib.Omega.{arith}
 use lib.Dec.{T, leb, eqb}
-use lib.ListN.{length, getD, length-set, length-take, length-map}
+use lib.ListN.{length, getD, length-set, length-take}
 use Rattle.lists.proofs.Fill.{length-without, without-past}
 use Rattle.lists.proofs.Tests.{either}
 use Rattle.slots.specs.Segments.{Segments}
 use Rattle.forecast.specs.declared.Cell.{Cell}
 use Rattle.forecast.specs.declared.Forecast.{Forecast}
 use Rattle.forecast.specs.Cells.{zeroCell, usedCells, cellAt}
-use Rattle.forecast.specs.Steps.{raised, tailed, noted, dropped, aimed, retargeted}
+use Rattle.forecast.specs.Steps.{raised, tailed, noted, dropped}
 use Rattle.forecast.specs.Faults.{isSound, faultOf}
 use Rattle.forecast.specs.Held.{Tidy, Roomy}
 use Rattle.forecast.proofs.Laws.{noted-raised, noted-spent, noted-new, noted-full, dropped-is}
@@ -60,8 +60,3 @@ dropped-few n x cs h =
       | yes l ↦ omega (arith, length-without (cellAt x cs) cs l)
       | no l ↦ rw (without-past (cellAt x cs) cs (omega arith)) h
     ])
-
--- aiming keeps their number
-pub retargeted-few : (n : ℕ) (place : ℕ → ℕ) (cs : List Cell) → length cs ≤ n → length (retargeted place cs) ≤ n
-unfolding retargeted
-retargeted-few n place cs h = rw (length-map cs (aimed place)) h

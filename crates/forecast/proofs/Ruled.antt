@@ -1,5 +1,5 @@
 -- The rule that a forecast's cells keep: few, counts in range, markers live and apart. And what it takes to keep it.
-use mathlib.Core.Path.{_≡_, refl, sym, ap, _∙_, subst}
+use mathlib.Core.Path.{_≡_, sym, ap, _∙_, subst}
 use mathlib.Core.List.{List}
 use Prim.Native.Nat.{ℕ, _≤_, _<_}
 use native.Mathlib.Nat.{le-trans}
@@ -7,8 +7,7 @@ use lib.ListN.{length, getD}
 use Rattle.lists.specs.Lists.{All}
 use Rattle.lists.proofs.Members.{mem-at, at-mem}
 use Rattle.forecast.specs.declared.Cell.{Cell}
-use Rattle.forecast.specs.Cells.{zeroCell, cellAt, weight}
-use Rattle.forecast.proofs.Laws.{found-marks, marked-found, weight-at}
+use Rattle.forecast.specs.Cells.{zeroCell}
 
 -- the marker at a place
 abbrev pub markerAt : List Cell → ℕ → ℕ
@@ -36,13 +35,6 @@ Placed place cs = All (λ c. c .segment ≡ place (c .marker)) cs
 -- what is live may grow
 pub wider : (P : ℕ) (L L′ : ℕ → Type 0) (cs : List Cell) → Ruled P L cs → ((k : ℕ) → L k → L′ k) → Ruled P L′ cs
 wider P L L′ cs R f = record { few = R .few; counts = R .counts; live = λ c m. f (c .marker) (R .live c m); apart = R .apart }
-
--- the weight of a cell's marker is its count
-pub weight-cell : (cs : List Cell) → Apart cs → (i : ℕ) → i < length cs → weight cs (markerAt cs i) ≡ getD cs i zeroCell .count
-weight-cell cs a i h = weight-at cs (markerAt cs i) i (a _ i found h (found-marks (markerAt cs i) cs found))
-  where
-    found : cellAt (markerAt cs i) cs < length cs
-    found = marked-found (markerAt cs i) cs i h refl
 
 -- the cells ds have their markers from places of cs, each from one of its own
 pub record From (ds cs : List Cell) : Type 0 where

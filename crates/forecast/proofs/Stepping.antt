@@ -13,7 +13,7 @@ use Rattle.forecast.specs.declared.Cell.{Cell}
 use Rattle.forecast.specs.declared.Forecast.{Forecast}
 use Rattle.forecast.specs.Cells.{cell, zeroCell, cells, usedCells, row, forecastOf, cellAt}
 use Rattle.forecast.specs.Held.{Tidy, Became, Roomy, CellOf}
-use Rattle.forecast.proofs.Laws.{forecastOf-used, forecastOf-cells, length-forecastOf, used-forecastOf}
+use Rattle.forecast.proofs.Laws.{forecastOf-used, forecastOf-cells, used-forecastOf}
 use Rattle.forecast.proofs.Rows.{length-zip, getD-zip, markers-zip, segments-zip, counts-zip, row-at, row-long}
 
 -- THE ONE TIDY FORECAST with given cells
@@ -109,12 +109,6 @@ module _ (F : Forecast) (t : Tidy F) where
         segments = ap length segments-row ∙ row-long (λ c. c .segment) us l;
         counts = ap length counts-row ∙ row-long (λ c. c .count) us l;
       }
-
-  -- it has 12 cells
-  pub cells-12 : length (cells F) ≡ 12
-  cells-12 =
-      let r = t .room in
-      ap (λ (G : Forecast). length (cells G)) (t .rest) ∙ length-forecastOf us (omega (arith, cells-used))
 
   -- each is the one of the used cells, or zero
   pub cell-is : (i : ℕ) → getD (cells F) i zeroCell ≡ getD us i zeroCell

@@ -1,12 +1,12 @@
 -- Each number is given to a C program exactly when its row applies and none before it does.
 use Prim.Native.Nat.{ℕ, _<_}
-use mathlib.Core.Path.{_≡_, refl, ap}
+use mathlib.Core.Path.{refl, ap}
 use mathlib.Core.Bool.{Bool, true, false, not, _||_}
 use mathlib.Core.Logic.{_⊎_, inl, inr, _≢_}
 use mathlib.Core.List.{List, [], _∷_}
 use native.Mathlib.Omega.{arith}
 use lib.Dec.{eqb, ltb, eqb→eq, ltb→lt, nltb→le}
-use lib.ListN.{length, drop}
+use lib.ListN.{length}
 use Rattle.lists.proofs.Tests.{double-not, neqb→ne}
 use Rattle.rules.specs.Checks as checks
 use Rattle.rules.specs.Calls as rules

@@ -1,7 +1,7 @@
 -- Members of lists: their places, and those of a part, a changed list and a mapped one.
 use mathlib.Core.Path.{_≡_, refl, sym, subst}
 use mathlib.Core.Logic.{_⊎_, inl, inr}
-use mathlib.Core.List.{List, [], _∷_, _++_, map, List·Memᴰ as Mem, List·Memᴰ·head as here, List·Memᴰ·tail as there}
+use mathlib.Core.List.{List, [], _∷_, map, List·Memᴰ as Mem, List·Memᴰ·head as here, List·Memᴰ·tail as there}
 use mathlib.Core.List.{List·Memᴰ·not-nil as nowhere, List·Memᴰ·cases-cons as mem-cases, List·Memᴰ·append-cases as in-either}
 use mathlib.Core.List.{Memᴰ·append-left as in-left, Memᴰ·append-right as in-right}
 use Prim.Native.Nat.{ℕ, zero, suc, _<_}
@@ -39,10 +39,6 @@ module _ {A : Type 0} where
         | inl n ↦ inr (mem-take s xs x n)
         | inr n ↦ elim (mem-cases n) [ inl e ↦ inl e | inr o ↦ inr (mem-drop (suc s) xs x o) ]
       ]
-
-  -- what holds of two lists' elements holds of their join's
-  pub all-append : (P : A → Type 0) (xs ys : List A) → All P xs → All P ys → All P (xs ++ ys)
-  all-append P xs ys h k x m = elim (in-either xs m) [ inl n ↦ h x n | inr n ↦ k x n ]
 
 pub map-all : {A B : Type 0} (Q : B → Type 0) (f : A → B) (xs : List A) → All (λ x. Q (f x)) xs → All Q (map f xs)
 map-all Q f [] h y m = absurd (nowhere m)

@@ -3,7 +3,7 @@ use mathlib.Core.Path.{_≡_, refl, ap, subst}
 use mathlib.Core.Bool.{Bool, true, false, not}
 use mathlib.Core.Logic.{inl, inr}
 use mathlib.Core.Option.{Option, none, some}
-use mathlib.Core.List.{List, [], _∷_, List·Memᴰ as Mem, List·Memᴰ·head as here, List·Memᴰ·tail as there}
+use mathlib.Core.List.{List, [], _∷_, List·Memᴰ as Mem}
 use mathlib.Core.List.{List·Memᴰ·not-nil as nowhere, List·Memᴰ·cases-cons as mem-cases}
 use Prim.Native.Nat.{ℕ, zero, suc, _+_, _≤_, _<_}
 use native.Mathlib.Nat.{eq-or-lt-of-le}
@@ -12,7 +12,6 @@ use native.Mathlib.Omega.{arith}
 use lib.Dec.{T, T-not}
 use lib.ListN.{length, getD}
 use Rattle.lists.specs.Choice.{if_then_else_}
-use Rattle.lists.specs.Lists.{All}
 use Rattle.lists.specs.Search.{first, placeBy}
 use Rattle.lists.proofs.Tests.{either}
 
@@ -90,11 +89,3 @@ module _ {A : Type 0} (p : A → Bool) where
             | inl q ↦ absurd (subst T e (subst (λ (z : A). T (p z)) q t))
             | inr n ↦ omega (arith, rec n)
           ]
-
-  pub place-none : (xs : List A) → All (λ x. T (not (p x))) xs → placeBy p xs ≡ length xs
-  place-none [] h = refl
-  place-none (x ∷ xs) h = go (p x) (h x (here refl)) (place-none xs (λ y m. h y (there m)))
-    where
-      go : (b : Bool) → T (not b) → placeBy p xs ≡ length xs → (if b then 0 else suc (placeBy p xs)) ≡ suc (length xs)
-      go true t e = absurd t
-      go false t e = ap suc e

@@ -1,5 +1,5 @@
 -- Keys of a window gathered at its front, one segment at a time, and the totals of counts.
-use mathlib.Core.Path.{_≡_, refl, sym, ap, _∙_, subst}
+use mathlib.Core.Path.{_≡_, sym, ap, _∙_, subst}
 use Prim.Native.Nat.{ℕ, zero, suc, _+_, _-_, _*_, _≤_, _<_}
 use native.Mathlib.Nat.{suc-add, add-sub-of-le, not-suc-le-zero, le-of-suc-le-suc}
 use native.Mathlib.Omega.{arith}
@@ -75,12 +75,3 @@ module _ {A : Type 0} where
       → length (gather (take (suc s) cs) l) ≡ at + getD cs s 0
   gather-length-suc cs l s at h k e q =
       ap length (gather-suc cs s l h) ∙ simp (length-append, length-take, length-drop) (omega arith)
-
-  -- pack gives as many keys as the counts say
-  pub length-gather : (cs : List ℕ) (l : List A) → ((k : ℕ) → getD cs k 0 ≤ 64) → length l ≡ 64 * length cs → length (gather cs l) ≡ total cs
-  unfolding gather
-  length-gather [] l fits e = refl
-  length-gather (c ∷ cs) l fits e =
-      let ih : length (gather cs (drop 64 l)) ≡ total cs = length-gather cs (drop 64 l) (λ k. fits (suc k)) (simp length-drop (omega arith)) in
-      let f : c ≤ 64 = fits 0 in
-      simp (length-append, length-take) (omega arith)

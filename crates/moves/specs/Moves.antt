@@ -23,10 +23,6 @@ module _ {A : Type 0} where
   unfoldable pub closed : A → ℕ → ℕ → List A → List A
   closed z n at l = without at (take n l) ++ z ∷ drop n l
 
-  -- f done to the part from a to e
-  abbrev pub inPart : ℕ → ℕ → (List A → List A) → List A → List A
-  inPart a e f l = take a l ++ (f (take (e - a) (drop a l)) ++ drop e l)
-
   -- the keys of a window whose segments have so many each
   unfoldable pub gather : List ℕ → List A → List A
   gather [] l = []

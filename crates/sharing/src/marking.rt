@@ -2,10 +2,8 @@
 ghost use mathlib.Core.Path.{_≡_};
 ghost use Prim.Native.Nat.{_+_, _≤_, _<_};
 ghost use mathlib.Core.List.{map};
-ghost use lib.Dec.{leb};
 ghost use lib.ListN.{length, take};
 ghost use Rattle.lists.specs.Lists.{insertAt};
-ghost use Rattle.lists.specs.Search.{placeBy};
 ghost use Rattle.slots.specs.Keys.{Rising};
 ghost use Rattle.forecast.specs.Cells.{usedCells, weight};
 ghost use Rattle.forecast.specs.Held.{Tidy, Fitting};

@@ -11,10 +11,14 @@ use Rattle.lists.proofs.Members.{mem-take, mem-drop, at-mem}
 use Rattle.lists.proofs.Joined.{length-joined}
 use Rattle.lists.proofs.Fill.{length-padded, take-padded-all}
 use Rattle.slots.specs.Segments.{pad, render}
-use Rattle.moves.specs.Moves.{opened, closed, inPart, gather, Packed}
+use Rattle.moves.specs.Moves.{opened, closed, gather, Packed}
 use Rattle.moves.proofs.Gaps.{opened-pad, closed-pad}
 
 -- A PART LENT AND BACK
+-- f done to the part from a to e
+abbrev pub inPart : {A : Type 0} → ℕ → ℕ → (List A → List A) → List A → List A
+inPart a e f l = take a l ++ (f (take (e - a) (drop a l)) ++ drop e l)
+
 -- what the borrow checker leaves where the part from a to e has come back with f done to it
 pub put-part : {A : Type 0} (a e : ℕ) (f : List A → List A) (l last : List A) → a ≤ e → last ≡ f (take (e - a) (drop a l)) → putMid a (e - a) l last ≡ inPart a e f l
 put-part {A} a e f l last h q =
@@ -66,12 +70,6 @@ module _ {A : Type 0} (z : A) where
       ap (take (64 * n)) (drop-render first ss fits) ∙ take-render n (drop first ss) (λ x m. fits x (mem-drop first ss x m))
 
   -- the same, as they are lent from a to e
-  pub segment-lent : (ss : List (List A)) (s a e : ℕ) (l : List A) → All (λ x. length x ≤ 64) ss → s < length ss → l ≡ render z ss → a ≡ 64 * s → e ≡ a + 64
-      → take (e - a) (drop a l) ≡ pad z (getD ss s [])
-  segment-lent ss s a e l fits h w p q =
-      let k : e - a ≡ 64 = omega arith in
-      ap₂ (λ (n m : ℕ). take n (drop m l)) k p ∙ ap (λ (t : List A). take 64 (drop (64 * s) t)) w ∙ segment-part ss s fits h
-
   pub window-lent : (ss : List (List A)) (first n a e : ℕ) (l : List A) → All (λ x. length x ≤ 64) ss → l ≡ render z ss → a ≡ 64 * first → e ≡ 64 * (first + n)
       → take (e - a) (drop a l) ≡ render z (take n (drop first ss))
   window-lent ss first n a e l fits w p q =

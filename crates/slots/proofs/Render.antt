@@ -1,8 +1,7 @@
 -- Slots and segments: slots whose order is kept are the render of their segments, and segments are those of their render.
 use mathlib.Core.Path.{_≡_, refl, sym, ap, ap₂, _∙_}
-use mathlib.Core.Logic.{inl, inr}
 use mathlib.Core.List.{List, [], _∷_, _++_, map, List·Memᴰ·head as here, List·Memᴰ·tail as there}
-use mathlib.Core.List.{List·Memᴰ·not-nil as nowhere, List·Memᴰ·cases-cons as mem-cases, Memᴰ·append-left as in-left, Memᴰ·append-right as in-right}
+use mathlib.Core.List.{List·Memᴰ·not-nil as nowhere, Memᴰ·append-left as in-left, Memᴰ·append-right as in-right}
 use Prim.Native.Nat.{ℕ, zero, suc, _+_, _*_, _/_, _%_, _≤_, _<_}
 use native.Mathlib.Omega.{arith}
 use lib.Dec.{T}
@@ -132,15 +131,3 @@ module _ (ss : Segments) (sizes : All (λ s. length s ≤ 64) ss) where
   -- and their order is kept
   pub kept-render : Listed ss → T (isKept (orderOf (render 0 ss)))
   kept-render L = kept← (render 0 ss) (ordered-render ss L) (solid-render (L .live))
-
--- slots that are all gaps show empty segments
-pub segments-empty : (n : ℕ) → segmentsOf (replicate (64 * n) 0) ≡ replicate n []
-segments-empty n = ap segmentsOf (sym (render-empty 0 n)) ∙ segments-render (replicate n []) (small n) (λ k m. absurd (nowhere (rw (no-keys n) at m)))
-  where
-    small : (n : ℕ) → All (λ (s : List ℕ). length s ≤ 64) (replicate n [])
-    small zero s m = absurd (nowhere m)
-    small (suc n) s m = elim (mem-cases m) [ inl e ↦ rw e (omega arith) | inr k ↦ small n s k ]
-
-    no-keys : (n : ℕ) → keys (replicate n []) ≡ []
-    no-keys zero = refl
-    no-keys (suc n) = no-keys n

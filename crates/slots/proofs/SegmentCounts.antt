@@ -1,20 +1,19 @@
 -- The keys of each segment, counted while slots are read: a segment has as many as the keys passed grow by.
 use mathlib.Core.Path.{_≡_, sym, ap, _∙_, subst}
-use mathlib.Core.Bool.{Bool}
-use mathlib.Core.List.{List, [], _∷_, _++_, map}
+use mathlib.Core.List.{List, [], _++_, map}
 use Prim.Native.Nat.{ℕ, zero, suc, _+_, _*_, _/_, _≤_, _<_}
 use native.Mathlib.Nat.{not-suc-le-zero, le-of-suc-le-suc}
 use native.Mathlib.Omega.{arith}
 use lib.Dec.{T, leb}
 use lib.ListN.{length, take, drop, getD, set, length-append, length-map, List·getD-map}
 use lib.Seq.{take-add, take-all, drop-drop}
-use Rattle.lists.specs.Lists.{total, parts}
+use Rattle.lists.specs.Lists.{parts}
 use Rattle.lists.proofs.Tests.{either}
 use Rattle.lists.proofs.Filtered.{only-append}
 use Rattle.lists.proofs.Parts.{length-parts}
 use Rattle.slots.specs.declared.Order.{Order}
 use Rattle.slots.specs.Segments.{isKey, live, segmentsOf}
-use Rattle.slots.specs.Orders.{orderOf, isKept}
+use Rattle.slots.specs.Orders.{isKept}
 use Rattle.slots.specs.Shown.{Reads, Counted, Tallied}
 use Rattle.slots.specs.Stretches.{Sound, faultOf}
 use Rattle.slots.proofs.Tallies.{counted-more}

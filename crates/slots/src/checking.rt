@@ -1,8 +1,8 @@
 // Reading any slots: the height of their number, and the first slot that breaks the order.
 ghost use mathlib.Core.Path.{_≡_};
-ghost use Prim.Native.Nat.{ℕ, _+_, _*_, _/_, _≤_, _<_};
+ghost use Prim.Native.Nat.{_+_, _*_, _/_, _≤_, _<_};
 ghost use lib.Dec.{T};
-ghost use lib.ListN.{length, getD};
+ghost use lib.ListN.{length};
 ghost use Rattle.slots.specs.Orders.{isKept};
 ghost use Rattle.slots.specs.Segments.{heightOf};
 ghost use Rattle.slots.specs.Shown.{Reads, Tallied};

@@ -1,8 +1,8 @@
 // Finding the segment of a key, and its place in the segment, by halving. Segments may be empty.
 ghost use mathlib.Core.Path.{_≡_};
-ghost use Prim.Native.Nat.{ℕ, _+_, _*_, _/_, _≤_, _<_};
+ghost use Prim.Native.Nat.{_+_, _*_, _/_, _≤_, _<_};
 ghost use lib.Dec.{T};
-ghost use lib.ListN.{length, take, getD};
+ghost use lib.ListN.{length, take};
 ghost use Rattle.slots.specs.Segments.{Segments};
 ghost use Rattle.slots.specs.Keys.{Rising, below};
 ghost use Rattle.slots.specs.Shown.{Shows, seat, Located};

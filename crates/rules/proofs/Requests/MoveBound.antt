@@ -1,7 +1,6 @@
 -- How much one request may do: its moves are at most the list's capacity, and the number of keys changes by one or stays.
 use mathlib.Core.Path.{_≡_, refl, sym, ap, _∙_}
 use mathlib.Core.Bool.{Bool, true, false}
-use mathlib.Core.Logic.{_≢_}
 use mathlib.Core.Option.{Option, none, some}
 use mathlib.Core.List.{List, [], List·Memᴰ as Mem}
 use Prim.Native.Nat.{ℕ, _+_, _^_, _≤_, _<_}
@@ -85,10 +84,6 @@ module _ (S : Shares) (y : ℕ) (R : Room) (G : Good S R) where
 
       m : Mem y (keys (R .segments))
       m = member→mem y (keys (R .segments)) (a .present)
-
--- a refused request leaves them
-pub length-refused : (S : Shares) (q : Request) (R : Room) → outcome S q R .answer .number ≢ 0 → length (keys (outcome S q R .room .segments)) ≡ length (keys (R .segments))
-length-refused S q R n = ap (λ (o : Outcome). length (keys (o .room .segments))) (refused-is S q R n)
 
 -- THE MOVES of a request are at most the list's capacity
 moves-accepted : (S : Shares) (q : Request) (R : Room) → Good S R → T (accepted S q R) → outcome S q R .answer .moves ≤ capacity S

@@ -80,22 +80,6 @@ module _ (S : Shares) (y : ℕ) (R : Room) where
     unfolding outcome
     delete-works = rw (ne-eqb y 0 n, is-true (member y (keys (R .segments))) t)
 
-    -- its segment keeps enough keys: a shift
-    pub delete-shifted : S .low 0 ≤ length (cut y (getD (R .segments) (segmentOf (R .segments) y) []))
-        → outcome S (Delete y) R
-        ≡ accept (cutFrom y (R .segments)) (dropped y (R .cells)) (length (above y (getD (R .segments) (segmentOf (R .segments) y) []))) false
-        (ltb (length (keys (cutFrom y (R .segments)))) (floor S))
-    unfolding deleteKey deleteLevel settled
-    delete-shifted f = delete-works ∙ rw (le-ltb (length (cut y (getD (R .segments) (segmentOf (R .segments) y) []))) (S .low 0) f)
-
-    -- it has too few and no window is within limits: a shift
-    pub delete-unswept : length (cut y (getD (R .segments) (segmentOf (R .segments) y) [])) < S .low 0 → chosen S (segmentOf (R .segments) y) (cutFrom y (R .segments)) ≡ none
-        → outcome S (Delete y) R
-        ≡ accept (cutFrom y (R .segments)) (dropped y (R .cells)) (length (above y (getD (R .segments) (segmentOf (R .segments) y) []))) false
-        (ltb (length (keys (cutFrom y (R .segments)))) (floor S))
-    unfolding deleteKey deleteLevel settled
-    delete-unswept f e = delete-works ∙ rw (lt-ltb (length (cut y (getD (R .segments) (segmentOf (R .segments) y) []))) (S .low 0) f, e)
-
     -- no window is swept, for either reason: a shift
     pub delete-stays : deleteLevel S y (R .segments) ≡ none
         → outcome S (Delete y) R

@@ -66,9 +66,6 @@ outside-limits S l c t =
 
 -- a sweep of the window of level k round s: what it does to the windows that are not inside it
 module _ (S : Shares) (k s : ℕ) (cs : List Cell) (ms : Segments) (h : start k s + 2 ^ k ≤ length ms) where
-  new : Segments
-  new = newWindow S k s cs ms
-
   length-new : length (newWindow S k s cs ms) ≡ 2 ^ k
   length-new = length-shareOut S (weight cs) (frontWeight k s cs) k (keys (window k s ms))
 

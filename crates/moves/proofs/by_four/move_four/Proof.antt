@@ -1,6 +1,6 @@
 -- move_four meets its contract: what is read is written.
 use Prim.Native.Nat.{ℕ, _+_}
-use mathlib.Core.Path.{_≡_, sym, ap, _∙_}
+use mathlib.Core.Path.{sym, ap, _∙_}
 use mathlib.Core.List.{List, _++_}
 use lib.ListN.{take, drop}
 use borrow.Author.Needs.{needs}

@@ -1,5 +1,5 @@
 -- `slots::checking::all_gaps` meets its contract. The loop's invariant: the slots from `j` up to `e` are gaps.
-use Prim.Native.Nat.{ℕ, _-_, _≤_}
+use Prim.Native.Nat.{_-_, _≤_}
 use native.Mathlib.Omega.{arith}
 use borrow.Author.Needs.{needs}
 use borrow.Author.Tests.{not-false}

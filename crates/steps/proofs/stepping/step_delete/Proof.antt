@@ -1,9 +1,7 @@
 -- `step_delete` refuses by 5 or 7, or changes nothing where a shift would be over; or drops the key's cell and hands the key to a shift or to a sweep.
-use mathlib.Core.Path.{_≡_}
 use mathlib.Core.Logic.{⊎-elim}
 use Prim.Native.Nat.{_<_}
 use native.Mathlib.Omega.{arith}
-use lib.ListN.{length}
 use borrow.Author.Tests.{not-true, not-false}
 use Rattle.slots.specs.Segments.{segmentsOf}
 use Rattle.slots.specs.Shown.{Shows}

@@ -1,8 +1,6 @@
 -- `step_insert` refuses by 5, 6 or 8, or changes nothing where a shift would be over; or notes the predecessor and hands the key to a shift or to a sweep.
-use mathlib.Core.Path.{_≡_}
 use mathlib.Core.Logic.{⊎-elim}
 use native.Mathlib.Omega.{arith}
-use lib.ListN.{length}
 use Rattle.slots.specs.Segments.{segmentsOf}
 use Rattle.slots.specs.Shown.{Shows}
 use Rattle.forecast.specs.Held.{Tidy, Roomy}

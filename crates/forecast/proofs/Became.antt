@@ -14,7 +14,7 @@ use Rattle.forecast.specs.declared.Forecast.{Forecast}
 use Rattle.forecast.specs.Cells.{zeroCell, usedCells, cellAt}
 use Rattle.forecast.specs.Steps.{raised, tailed, noted, dropped}
 use Rattle.forecast.specs.Faults.{isSound, faultOf}
-use Rattle.forecast.specs.Held.{Tidy, Roomy}
+use Rattle.forecast.specs.Tidy.{Tidy, Roomy}
 use Rattle.forecast.proofs.Laws.{noted-raised, noted-spent, noted-new, noted-full, dropped-is}
 use Rattle.forecast.proofs.Faults.{sound-ruled, sound-whole}
 pub use Rattle.forecast.proofs.Stepping.{is-became, became-is}

@@ -28,7 +28,7 @@ use Rattle.forecast.specs.declared.Cell.{Cell}
 use Rattle.forecast.specs.declared.Forecast.{Forecast}
 use Rattle.forecast.specs.declared.Fault.the-variants.{Sound, TooMany, NotLive, Misplaced}
 use Rattle.forecast.specs.Cells.{zeroCell, cells, marks}
-use Rattle.forecast.specs.Held.{CellOf}
+use Rattle.forecast.specs.Tidy.{CellOf}
 use Rattle.forecast.specs.Faults.{markerFault, faultAt, isSound, faultOf}
 use Rattle.forecast.proofs.Laws.{place-marker}
 

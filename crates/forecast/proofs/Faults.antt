@@ -28,7 +28,7 @@ use Rattle.forecast.specs.Faults.{faultAt, isSound, faultOf}
 use Rattle.forecast.proofs.Laws.{used-forecastOf, length-forecastOf, forecastOf-used, forecastOf-cells}
 use Rattle.forecast.proofs.Stepping.{roomy-12, roomy-whole}
 use Rattle.forecast.proofs.Ruled.{markerAt, Counted, Ruled, Placed}
-use Rattle.forecast.specs.Held.{Marker, Roomy}
+use Rattle.forecast.specs.Tidy.{Marker, Roomy}
 use Rattle.forecast.proofs.Readings.{nth, BadBy, tooMany, noCount, overCount, repeated, notLive, misplaced, notZero, Good, Fine, Says, read-at}
 
 module _ (P : ℕ) (ss : Segments) (F : Forecast) where

@@ -15,7 +15,7 @@ use Rattle.lists.proofs.Members.{at-mem}
 use Rattle.lists.proofs.Search.{place-passes, place-mem}
 use Rattle.lists.proofs.Fill.{take-padded-all, length-padded, without-past}
 use Rattle.forecast.specs.declared.Cell.{Cell}
-use Rattle.forecast.specs.Cells.{cell, zeroCell, counted, cells, usedCells, forecastOf, marks, cellAt, weight, markersOf}
+use Rattle.forecast.specs.Cells.{cell, zeroCell, withCount, cells, usedCells, forecastOf, marks, cellAt, weight, markersOf}
 use Rattle.forecast.proofs.Rows.{zip-fill}
 use Rattle.forecast.specs.Steps.{raised, tailed, noted, dropped, aimed, retargeted}
 
@@ -57,13 +57,13 @@ module _ (P x s : ℕ) (cs : List Cell) where
 
 -- RAISING
 -- the head stays at the head
-pub raised-head : (cs : List Cell) → raised 0 cs ≡ set cs 0 (counted (getD cs 0 zeroCell .count + 1) (getD cs 0 zeroCell))
+pub raised-head : (cs : List Cell) → raised 0 cs ≡ set cs 0 (withCount (getD cs 0 zeroCell .count + 1) (getD cs 0 zeroCell))
 unfolding raised
 raised-head cs = refl
 
 -- another cell changes places with its neighbour toward the head
 pub raised-past : (i : ℕ) (cs : List Cell) → 0 < i
-    → raised i cs ≡ set (set cs i (getD cs (i - 1) zeroCell)) (i - 1) (counted (getD cs i zeroCell .count + 1) (getD cs i zeroCell))
+    → raised i cs ≡ set (set cs i (getD cs (i - 1) zeroCell)) (i - 1) (withCount (getD cs i zeroCell .count + 1) (getD cs i zeroCell))
 unfolding raised
 raised-past i cs h = let e : i ≢ 0 = omega arith in rw (ne-eqb i 0 e)
 
@@ -76,7 +76,7 @@ module _ (cs : List Cell) where
 
   -- to something else: the cell stays
   pub tailed-less : 1 < getD cs (length cs - 1) zeroCell .count
-      → tailed cs ≡ set cs (length cs - 1) (counted (getD cs (length cs - 1) zeroCell .count - 1) (getD cs (length cs - 1) zeroCell))
+      → tailed cs ≡ set cs (length cs - 1) (withCount (getD cs (length cs - 1) zeroCell .count - 1) (getD cs (length cs - 1) zeroCell))
   unfolding tailed
   tailed-less h = rw (lt-leb _ _ h)
 

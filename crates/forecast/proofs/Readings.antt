@@ -20,7 +20,7 @@ use Rattle.forecast.specs.declared.Forecast.{Forecast}
 use Rattle.forecast.specs.declared.Fault.{Fault}
 use Rattle.forecast.specs.declared.Fault.the-variants.{Sound, TooMany, NotZero, Count, Repeated, NotLive, Misplaced}
 use Rattle.forecast.specs.Cells.{zeroCell, cells, marks}
-use Rattle.forecast.specs.Held.{Marker}
+use Rattle.forecast.specs.Tidy.{Marker}
 use Rattle.forecast.specs.Faults.{isZero, faultAt}
 use Rattle.forecast.proofs.Ruled.{Counted}
 use Rattle.slots.proofs.Keys.{member→mem, mem→member}

@@ -12,7 +12,7 @@ use Rattle.lists.proofs.Fill.{length-padded, getD-padded, set-padded, take-padd
 use Rattle.lists.proofs.Overwritten.{written, written-from, written-more, written-ahead, written-done, take-without, getD-without}
 use Rattle.forecast.specs.declared.Cell.{Cell}
 use Rattle.forecast.specs.Cells.{cell, zeroCell, zip3, row}
-use Rattle.forecast.specs.Held.{aheadRow}
+use Rattle.forecast.specs.Tidy.{aheadRow}
 
 -- CELLS OF ROWS
 -- rows filled with zeros show the cells, and zero cells after them

@@ -12,7 +12,7 @@ use Rattle.lists.proofs.Maps.{place-map}
 use Rattle.forecast.specs.declared.Cell.{Cell}
 use Rattle.forecast.specs.declared.Forecast.{Forecast}
 use Rattle.forecast.specs.Cells.{cell, zeroCell, cells, usedCells, row, forecastOf, cellAt}
-use Rattle.forecast.specs.Held.{Tidy, Became, Roomy, CellOf}
+use Rattle.forecast.specs.Tidy.{Tidy, Became, Roomy, CellOf}
 use Rattle.forecast.proofs.Laws.{forecastOf-used, forecastOf-cells, used-forecastOf}
 use Rattle.forecast.proofs.Rows.{length-zip, getD-zip, markers-zip, segments-zip, counts-zip, row-at, row-long}
 

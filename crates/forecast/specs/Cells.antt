@@ -16,8 +16,8 @@ cell x s n = record { marker = x; segment = s; count = n }
 abbrev pub zeroCell : Cell
 zeroCell = cell 0 0 0
 
-abbrev pub counted : ℕ → Cell → Cell
-counted n c = cell (c .marker) (c .segment) n
+abbrev pub withCount : ℕ → Cell → Cell
+withCount n c = cell (c .marker) (c .segment) n
 
 -- The cells of a row of markers, one of segments and one of counts.
 abbrev pub zip3 : List ℕ → List ℕ → List ℕ → List Cell

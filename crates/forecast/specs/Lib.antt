@@ -1,4 +1,4 @@
 pub mod Cells
 pub mod Steps
 pub mod Faults
-pub mod Held
+pub mod Tidy

@@ -6,13 +6,13 @@ use lib.ListN.{length, take, getD, set}
 use Rattle.lists.specs.Choice.{if_then_else_}
 use Rattle.lists.specs.Lists.{without}
 use Rattle.forecast.specs.declared.Cell.{Cell}
-use Rattle.forecast.specs.Cells.{cell, zeroCell, counted, cellAt}
+use Rattle.forecast.specs.Cells.{cell, zeroCell, withCount, cellAt}
 
 -- The cell at i: count plus one, then it changes places with its neighbour toward the head, if any.
 unfoldable pub raised : ℕ → List Cell → List Cell
 raised i cs =
     let c = getD cs i zeroCell in
-    let more = counted (c .count + 1) c in
+    let more = withCount (c .count + 1) c in
     if eqb i 0 then set cs i more else set (set cs i (getD cs (i - 1) zeroCell)) (i - 1) more
 
 -- The tail's count drops by one; a count that reaches 0 removes its cell.
@@ -20,7 +20,7 @@ unfoldable pub tailed : List Cell → List Cell
 tailed cs =
     let t = length cs - 1 in
     let c = getD cs t zeroCell in
-    if leb (c .count) 1 then take t cs else set cs t (counted (c .count - 1) c)
+    if leb (c .count) 1 then take t cs else set cs t (withCount (c .count - 1) c)
 
 -- An insert notes its predecessor x, which is in segment s.
 unfoldable pub noted : ℕ → ℕ → ℕ → List Cell → List Cell

@@ -11,7 +11,7 @@ ghost use Rattle.slots.specs.Shown.{Shows};
 ghost use Rattle.forecast.specs.Cells.{usedCells, weight};
 ghost use Rattle.forecast.specs.Steps.{noted, dropped, retargeted};
 ghost use Rattle.forecast.specs.Faults.{isZero, markerFault, faultAt, faultOf, isSound};
-ghost use Rattle.forecast.specs.Held.{Tidy, Became, Marker, Live, CellOf, aheadRow};
+ghost use Rattle.forecast.specs.Tidy.{Tidy, Became, Marker, Live, CellOf, aheadRow};
 
 // A marker is a live key, or 0 for the front of the list.
 pub struct Cell {

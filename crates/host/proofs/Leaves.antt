@@ -24,7 +24,7 @@ use Rattle.rules.proofs.Running.Runs.{run-refused}
 use Rattle.rules.proofs.Running.Singly as singly
 use Rattle.words.specs.Words.{cellWords, forecastIn, forecastWords}
 use Rattle.host.specs.Tallies.{totalsIn, totalsWords}
-use Rattle.host.specs.Calls.{Outcome, sized, notForecast, notTotals, short, over, replyWords, make, lookup, insert, delete, scan, run}
+use Rattle.host.specs.Calls.{Given, sized, notForecast, notTotals, short, over, replyWords, make, lookup, insert, delete, scan, run}
 use Rattle.host.specs.Refused.{Leaves, MakeLeaves, LookupLeaves, ScanLeaves, InsertLeaves, DeleteLeaves, RunLeaves}
 use Rattle.words.proofs.WordLaws.{words-again}
 use Rattle.host.proofs.TallyLaws.{totals-again}
@@ -41,7 +41,7 @@ small (r ∷ rs) n k (inl (w, e)) = let l = k .0 in omega arith
 small (r ∷ rs) n k (inr (w, t)) = small rs n (k .1) t
 
 -- where the sizes fit, what the call below leaves where it is refused
-leaves : (wrong : Bool) (lent zeroed : List (List ℕ)) (o : Outcome) → o .number ≤ 10 → (T (not wrong) → o .number ≢ 0 → o .number ≤ 8 → o .left ≡ zeroed)
+leaves : (wrong : Bool) (lent zeroed : List (List ℕ)) (o : Given) → o .number ≤ 10 → (T (not wrong) → o .number ≢ 0 → o .number ≤ 8 → o .left ≡ zeroed)
     → Leaves (sized wrong lent o) lent zeroed
 leaves true lent zeroed o s r = record { misfit = λ e. refl; refused = λ a b. absurd (omega arith) }
 leaves false lent zeroed o s r = record { misfit = λ e. absurd (omega arith); refused = λ a b. r tt (λ z. absurd (omega arith)) b }

@@ -17,9 +17,9 @@ use Rattle.rules.proofs.Running.Runs.{run-refused}
 use Rattle.rules.proofs.Running.Singly as singly
 use Rattle.words.specs.Words.{forecastIn}
 use Rattle.host.specs.Tallies.{totalsIn}
-use Rattle.host.specs.Calls.{Outcome, sized, notForecast, notTotals, short, make, check, lookup, insert, delete, scan, run}
+use Rattle.host.specs.Calls.{Given, sized, notForecast, notTotals, short, make, check, lookup, insert, delete, scan, run}
 use Rattle.host.specs.Refused.{row100, NotForecast, MakeTells, CheckTells, LookupTells, ScanTells, InsertTells, DeleteTells, RunTells}
-use Rattle.forecast.specs.Held.{Roomy}
+use Rattle.forecast.specs.Tidy.{Roomy}
 use Rattle.words.proofs.WordLaws.{forecastIn-roomy}
 
 -- THE TESTS OF SIZES
@@ -39,9 +39,9 @@ pub roomy : (ws : List ℕ) → Roomy (forecastIn ws)
 roomy ws = forecastIn-roomy ws
 
 -- 100 comes before what the call below tells
-sized-tells : (wrong : Bool) (W : Type 0) (rs : List Row) (lent : List (List ℕ)) (o : Outcome) → Decides wrong (row100 W) → Tells rs (o .number)
+sized-tells : (wrong : Bool) (W : Type 0) (rs : List Row) (lent : List (List ℕ)) (o : Given) → Decides wrong (row100 W) → Tells rs (o .number)
     → Tells (row100 W ∷ rs) (sized wrong lent o .number)
-sized-tells wrong W rs lent o d t = tells-if (λ (x : Outcome). x .number) wrong (row100 W) rs (record { number = 100; left = lent }) o refl d (λ _. t)
+sized-tells wrong W rs lent o d t = tells-if (λ (x : Given). x .number) wrong (row100 W) rs (record { number = 100; left = lent }) o refl d (λ _. t)
 
 pub make-tells : MakeTells
 unfolding make

@@ -3,9 +3,9 @@ use Prim.Native.Nat.{ℕ}
 use mathlib.Core.Path.{_≡_, sym, ap, _∙_}
 use mathlib.Core.List.{List, [], _∷_}
 use lib.ListN.{getD}
-use Rattle.host.specs.Calls.{Outcome, Gives, make, check, lookup, insert, delete, scan, run}
+use Rattle.host.specs.Calls.{Given, Gives, make, check, lookup, insert, delete, scan, run}
 
-module _ (o : Outcome) (r r′ : ℕ) where
+module _ (o : Given) (r r′ : ℕ) where
   number-one : (l l′ : List (List ℕ)) → Gives o r l → Gives o r′ l′ → r ≡ r′
   number-one l l′ p q = p .number ∙ sym (q .number)
 

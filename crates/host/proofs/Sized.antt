@@ -7,7 +7,7 @@ use mathlib.Core.List.{List}
 use lib.Dec.{T, eqb, lt→ltb}
 use lib.ListN.{length}
 use Rattle.lists.proofs.Tests.{not-not, ne→neqb, eq→eqb, le→nltb}
-use Rattle.host.specs.Calls.{Outcome, sized, notForecast, notTotals, short, Gives}
+use Rattle.host.specs.Calls.{Given, sized, notForecast, notTotals, short, Gives}
 
 -- each test of a size
 pub not-forecast : (ws : List ℕ) → length ws ≢ 37 → T (notForecast ws)
@@ -29,10 +29,10 @@ pub is-long : (reply : List ℕ) (n : ℕ) → n ≤ length reply → T (not (sh
 is-long reply n h = le→nltb n (length reply) h
 
 -- what they come to
-pub misfit : (wrong : Bool) (lent : List (List ℕ)) (o : Outcome) → T wrong → Gives (sized wrong lent o) 100 lent
+pub misfit : (wrong : Bool) (lent : List (List ℕ)) (o : Given) → T wrong → Gives (sized wrong lent o) 100 lent
 misfit true lent o t = record { number = refl; slices = refl }
 misfit false lent o t = absurd t
 
-pub fitted : (wrong : Bool) (lent : List (List ℕ)) (o : Outcome) (r : ℕ) (left : List (List ℕ)) → T (not wrong) → Gives o r left → Gives (sized wrong lent o) r left
+pub fitted : (wrong : Bool) (lent : List (List ℕ)) (o : Given) (r : ℕ) (left : List (List ℕ)) → T (not wrong) → Gives o r left → Gives (sized wrong lent o) r left
 fitted true lent o r left t g = absurd t
 fitted false lent o r left t g = g

@@ -14,12 +14,12 @@ use Rattle.rules.specs.Calls as rules
 use Rattle.words.specs.Words.{forecastIn, forecastWords}
 use Rattle.host.specs.Tallies.{totalsIn, totalsWords}
 
-pub record Outcome : Type 0 where
+pub record Given : Type 0 where
   pub number : ℕ
   pub left : List (List ℕ)
 
 -- A forecast that is not 37 words, totals that are not 4, or a reply shorter than listed: 100, tested before all else, and nothing touched.
-abbrev pub sized : Bool → List (List ℕ) → Outcome → Outcome
+abbrev pub sized : Bool → List (List ℕ) → Given → Given
 sized wrong lent o = if wrong then record { number = 100; left = lent } else o
 
 abbrev pub notForecast : List ℕ → Bool
@@ -35,29 +35,29 @@ short reply n = ltb (length reply) n
 abbrev pub over : List ℕ → List ℕ → List ℕ
 over ws reply = ws ++ drop (length ws) reply
 
-unfoldable pub make : List ℕ → List ℕ → Outcome
+unfoldable pub make : List ℕ → List ℕ → Given
 make list forecast =
     let m : rules.Made = rules.make list in
     sized (notForecast forecast) (list ∷ forecast ∷ []) (record { number = m .number; left = m .slots ∷ forecastWords (m .forecast) ∷ [] })
 
-unfoldable pub check : List ℕ → List ℕ → Outcome
+unfoldable pub check : List ℕ → List ℕ → Given
 check list forecast = sized (notForecast forecast) [] (record { number = checks.check list (forecastIn forecast); left = [] })
 
 -- reply: present, segment
-unfoldable pub lookup : List ℕ → ℕ → List ℕ → Outcome
+unfoldable pub lookup : List ℕ → ℕ → List ℕ → Given
 lookup list key reply =
     let f : Found = rules.lookup list key in
     sized (short reply 2) (reply ∷ []) (record { number = f .number; left = over (one (f .present) ∷ f .segment ∷ []) reply ∷ [] })
 
 -- reply: moves
-unfoldable pub insert : List ℕ → List ℕ → ℕ → List ℕ → Outcome
+unfoldable pub insert : List ℕ → List ℕ → ℕ → List ℕ → Given
 insert list forecast key reply =
     let c : rules.Called = rules.insert list (forecastIn forecast) key in
     sized (notForecast forecast || short reply 1) (list ∷ forecast ∷ reply ∷ [])
     (record { number = c .answer .number; left = c .slots ∷ forecastWords (c .forecast) ∷ over (c .answer .moves ∷ []) reply ∷ [] })
 
 -- reply: moves, sparse
-unfoldable pub delete : List ℕ → List ℕ → ℕ → List ℕ → Outcome
+unfoldable pub delete : List ℕ → List ℕ → ℕ → List ℕ → Given
 delete list forecast key reply =
     let c : rules.Called = rules.delete list (forecastIn forecast) key in
     sized (notForecast forecast || short reply 2) (list ∷ forecast ∷ reply ∷ [])
@@ -67,7 +67,7 @@ delete list forecast key reply =
     })
 
 -- reply: written, more
-unfoldable pub scan : List ℕ → ℕ → List ℕ → List ℕ → Outcome
+unfoldable pub scan : List ℕ → ℕ → List ℕ → List ℕ → Given
 scan list from output reply =
     let s : Scanned = rules.scan list from output in
     sized (short reply 2) (output ∷ reply ∷ [])
@@ -77,7 +77,7 @@ scan list from output reply =
 abbrev pub replyWords : rules.Reply → List ℕ
 replyWords r = r .worked ∷ r .refused ∷ r .moves ∷ r .place ∷ []
 
-unfoldable pub run : List ℕ → List ℕ → List ℕ → ℕ → List ℕ → List ℕ → Outcome
+unfoldable pub run : List ℕ → List ℕ → List ℕ → ℕ → List ℕ → List ℕ → Given
 run list forecast requests allowance totals reply =
     let w : rules.Worked = rules.run list (forecastIn forecast) requests allowance (totalsIn totals) in
     sized (notForecast forecast || (notTotals totals || short reply 4)) (list ∷ forecast ∷ totals ∷ reply ∷ [])
@@ -87,6 +87,6 @@ run list forecast requests allowance totals reply =
     })
 
 -- What each call promises: the number that it returns and what it leaves are those of its definition.
-pub record Gives (o : Outcome) (r : ℕ) (left : List (List ℕ)) : Type 0 where
+pub record Gives (o : Given) (r : ℕ) (left : List (List ℕ)) : Type 0 where
   pub number : r ≡ o .number
   pub slices : left ≡ o .left

@@ -8,7 +8,7 @@ use Rattle.rules.specs.Calls as rules
 use Rattle.rules.specs.Rows.{Row, Tells, row1, listRows, bothRows, lookupRows, insertRows, deleteRows, runRows}
 use Rattle.words.specs.Words.{forecastIn}
 use Rattle.host.specs.Tallies.{totalsIn}
-use Rattle.host.specs.Calls.{Outcome, over, make, check, lookup, insert, delete, scan, run}
+use Rattle.host.specs.Calls.{Given, over, make, check, lookup, insert, delete, scan, run}
 
 -- EACH NUMBER IS GIVEN EXACTLY WHEN ITS ROW APPLIES AND NONE BEFORE IT DOES; 100 is the first.
 abbrev pub row100 : Type 0 → Row
@@ -48,7 +48,7 @@ RunTells = (list forecast requests : List ℕ) (allowance : ℕ) (totals reply :
     (run list forecast requests allowance totals reply .number)
 
 -- WHAT A REFUSAL LEAVES: by 100 all that was lent; by 1 to 8 that too, but the listed words of the reply, which are 0.
-pub record Leaves (o : Outcome) (lent zeroed : List (List ℕ)) : Type 0 where
+pub record Leaves (o : Given) (lent zeroed : List (List ℕ)) : Type 0 where
   pub misfit : o .number ≡ 100 → o .left ≡ lent
   pub refused : 1 ≤ o .number → o .number ≤ 8 → o .left ≡ zeroed
 

@@ -10,7 +10,7 @@ use lib.ListN.{length, take}
 use Rattle.lists.specs.Lists.{All}
 use Rattle.forecast.specs.declared.Forecast.{Forecast}
 use Rattle.forecast.specs.Cells.{forecastOf}
-use Rattle.forecast.specs.Held.{Roomy}
+use Rattle.forecast.specs.Tidy.{Roomy}
 use Rattle.rules.specs.declared.Request.{Request}
 use Rattle.rules.specs.declared.Request.the-variants.{Bad}
 use Rattle.rules.specs.declared.Totals.{Totals}
@@ -110,7 +110,7 @@ abbrev pub begin : List ℕ → Forecast → Series
 begin slots F = record { slots = slots; forecast = F; refused = 0; moves = 0; sweeps = 0 }
 
 pub record Equals (T : Totals) (qs : List Request) (s : Series) (W : Worked) : Type 0 where
-  pub number : length qs ≡ W .reply .worked
+  pub worked : length qs ≡ W .reply .worked
   pub good : All (λ q. q ≢ Bad) qs
   pub slots : W .slots ≡ s .slots
   pub forecast : W .forecast ≡ s .forecast
@@ -135,8 +135,8 @@ RunKeeps = (slots : List ℕ) (F : Forecast) (bytes : List ℕ) (allowance : ℕ
 
 -- A RUN IN TWO. Where the first bytes are worked to their end, a run over all the bytes is the run over the first, then the run over the
 -- rest from what that leaves, with the allowance that is left; the counts and places add up.
-abbrev pub joined : Worked → Worked → Worked
-joined W U = record {
+abbrev pub inTwo : Worked → Worked → Worked
+inTwo W U = record {
   slots = U .slots;
   forecast = U .forecast;
   totals = U .totals;
@@ -152,4 +152,4 @@ joined W U = record {
 abbrev pub RunInTwo : Type 0
 RunInTwo = (slots : List ℕ) (F : Forecast) (first rest : List ℕ) (allowance : ℕ) (T : Totals) → run slots F first allowance T .reply .stop ≡ 0
     → let W : Worked = run slots F first allowance T in
-    run slots F (first ++ rest) allowance T ≡ joined W (run (W .slots) (W .forecast) rest (allowance - W .reply .moves) (W .totals))
+    run slots F (first ++ rest) allowance T ≡ inTwo W (run (W .slots) (W .forecast) rest (allowance - W .reply .moves) (W .totals))

@@ -16,7 +16,7 @@ use Rattle.forecast.specs.Cells.{weight}
 use Rattle.forecast.specs.Steps.{noted, dropped, retargeted}
 use Rattle.rules.specs.declared.Request.{Request}
 use Rattle.rules.specs.declared.Request.the-variants.{Insert, Delete, Bad}
-use Rattle.rules.specs.Shares.{Shares, within, capacity, floor, cellsOf}
+use Rattle.rules.specs.Shares.{Shares, within, capacity, sparseBelow, cellsOf}
 use Rattle.rules.specs.SharingOut.{shareOut}
 
 -- A list with its forecast.
@@ -105,7 +105,7 @@ deleteKey S y R =
     let ss : Segments = R .segments in
     let s : ℕ = segmentOf ss y in
     let cs : List Cell = dropped y (R .cells) in
-    let sparse : Bool = ltb (length (keys (cutFrom y ss))) (floor S) in
+    let sparse : Bool = ltb (length (keys (cutFrom y ss))) (sparseBelow S) in
     settled S s cs (cutFrom y ss) (length (above y (getD ss s []))) sparse (deleteLevel S y ss)
 
 -- A request on a list and forecast that have passed their check: refusals 5 to 8, in order of testing, then the work.

@@ -71,7 +71,7 @@ ClimbIs = (S : Shares) (s : ℕ) (ss : Segments)
 
 -- A list: 2^h segments, in which keys rise strictly from 1 up.
 pub record Proper (S : Shares) (ss : Segments) : Type 0 where
-  pub number : length ss ≡ 2 ^ S .height
+  pub size : length ss ≡ 2 ^ S .height
   pub listed : Listed ss
 
 -- An insert below capacity, of a key that is not there, into a full segment always finds a window.

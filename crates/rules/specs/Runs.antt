@@ -12,13 +12,13 @@ use Rattle.rules.specs.Shares.{Shares}
 use Rattle.rules.specs.Placing.{Room, Outcome, outcome}
 
 -- A number, high byte first.
-abbrev pub number : ℕ → List ℕ → ℕ
-number n [] = n
-number n (b ∷ bs) = number (256 * n + b) bs
+abbrev pub highFirst : ℕ → List ℕ → ℕ
+highFirst n [] = n
+highFirst n (b ∷ bs) = highFirst (256 * n + b) bs
 
 -- House form, 11 bytes: the two-byte mark 0xA5 0x5A, a kind (1 insert, 2 delete), the key, high byte first.
 abbrev pub keyOf : List ℕ → ℕ
-keyOf bs = number 0 (take 8 (drop 3 bs))
+keyOf bs = highFirst 0 (take 8 (drop 3 bs))
 
 -- The record that the bytes begin with; Bad for a short record, a wrong mark or a wrong kind.
 unfoldable pub requestOf : List ℕ → Request

@@ -53,8 +53,8 @@ within S l n = leb (2 ^ l * S .low l) n && leb n (2 ^ l * S .high l)
 abbrev pub capacity : Shares → ℕ
 capacity S = 2 ^ S .height * S .high (S .height)
 
-abbrev pub floor : Shares → ℕ
-floor S = 2 ^ S .height * S .low (S .height)
+abbrev pub sparseBelow : Shares → ℕ
+sparseBelow S = 2 ^ S .height * S .low (S .height)
 
 -- P = 6 + h, the number of cells and the highest count of one.
 abbrev pub cellsOf : Shares → ℕ

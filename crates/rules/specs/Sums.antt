@@ -27,7 +27,7 @@ room ss cs = record { segments = ss; cells = cs }
 
 pub data Case : Type 0 where
   -- requests on a list of height h, and the numbers that the last one leaves
-  Worked : ℕ → Room → List Request → List ℕ → Case
+  Requested : ℕ → Room → List Request → List ℕ → Case
   -- keys shared out over a whole list of height h, by a forecast, and the counts of the segments
   Shared : ℕ → List Cell → List ℕ → List ℕ → Case
 
@@ -42,11 +42,11 @@ seen o =
     ++ (o .answer .number ∷ o .answer .moves ∷ one (o .answer .sparse) ∷ length (o .room .cells) ∷ weight (o .room .cells) 0 ∷ [])
 
 abbrev pub gives : Case → List ℕ
-gives (Worked h R qs ns) = seen (last h qs (refusedBy 0 R))
+gives (Requested h R qs ns) = seen (last h qs (refusedBy 0 R))
 gives (Shared h cs ks ns) = map length (shareOut (shares h) (weight cs) (weight cs 0) h ks)
 
 abbrev pub says : Case → List ℕ
-says (Worked h R qs ns) = ns
+says (Requested h R qs ns) = ns
 says (Shared h cs ks ns) = ns
 
 -- An empty list of height 2, and a list of height 1 with a and b keys in its segments and no cell.
@@ -58,13 +58,13 @@ pair a b = room (upFrom 1 a ∷ upFrom 101 b ∷ []) []
 
 -- A delete of each key of segment 0 in turn, of 7 keys, beside b keys; ns by the key.
 abbrev pub deletesBeside : ℕ → (ℕ → List ℕ) → List Case
-deletesBeside b ns = map (λ y. Worked 1 (pair 7 b) (Delete y ∷ []) (ns y)) (upFrom 1 7)
+deletesBeside b ns = map (λ y. Requested 1 (pair 7 b) (Delete y ∷ []) (ns y)) (upFrom 1 7)
 
 abbrev pub sum1 : List Case
-sum1 = Worked 2 empty (map Insert (upFrom 1 65)) (48 ∷ 17 ∷ 0 ∷ 0 ∷ 0 ∷ 65 ∷ 0 ∷ 7 ∷ 0 ∷ []) ∷ []
+sum1 = Requested 2 empty (map Insert (upFrom 1 65)) (48 ∷ 17 ∷ 0 ∷ 0 ∷ 0 ∷ 65 ∷ 0 ∷ 7 ∷ 0 ∷ []) ∷ []
 
 abbrev pub sum2 : List Case
-sum2 = Worked 2 empty (map Insert (downFrom 65)) (17 ∷ 48 ∷ 0 ∷ 0 ∷ 0 ∷ 65 ∷ 0 ∷ 1 ∷ 7 ∷ []) ∷ []
+sum2 = Requested 2 empty (map Insert (downFrom 65)) (17 ∷ 48 ∷ 0 ∷ 0 ∷ 0 ∷ 65 ∷ 0 ∷ 1 ∷ 7 ∷ []) ∷ []
 
 abbrev pub sum3 : List Case
 sum3 = deletesBeside 30 (λ y. 18 ∷ 18 ∷ 0 ∷ 36 ∷ 0 ∷ 0 ∷ 0 ∷ [])
@@ -84,11 +84,11 @@ sum7 = Shared 1 [] (upFrom 1 37) (19 ∷ 18 ∷ []) ∷ []
 -- 64 keys in segment 0: a new key gives 8, each present one 6.
 abbrev pub sum8 : List Case
 sum8 =
-    Worked 1 (pair 64 0) (Insert 65 ∷ []) (64 ∷ 0 ∷ 8 ∷ 0 ∷ 0 ∷ 0 ∷ 0 ∷ [])
-    ∷ map (λ y. Worked 1 (pair 64 0) (Insert y ∷ []) (64 ∷ 0 ∷ 6 ∷ 0 ∷ 0 ∷ 0 ∷ 0 ∷ [])) (upFrom 1 64)
+    Requested 1 (pair 64 0) (Insert 65 ∷ []) (64 ∷ 0 ∷ 8 ∷ 0 ∷ 0 ∷ 0 ∷ 0 ∷ [])
+    ∷ map (λ y. Requested 1 (pair 64 0) (Insert y ∷ []) (64 ∷ 0 ∷ 6 ∷ 0 ∷ 0 ∷ 0 ∷ 0 ∷ [])) (upFrom 1 64)
 
 abbrev pub sum9 : List Case
-sum9 = Worked 1 (room ((7 ∷ []) ∷ [] ∷ []) (cell 7 0 3 ∷ [])) (Delete 7 ∷ []) (0 ∷ 0 ∷ 0 ∷ 0 ∷ 1 ∷ 0 ∷ 0 ∷ []) ∷ []
+sum9 = Requested 1 (room ((7 ∷ []) ∷ [] ∷ []) (cell 7 0 3 ∷ [])) (Delete 7 ∷ []) (0 ∷ 0 ∷ 0 ∷ 0 ∷ 1 ∷ 0 ∷ 0 ∷ []) ∷ []
 
 abbrev pub cases : List Case
 cases = sum1 ++ (sum2 ++ (sum3 ++ (sum4 ++ (sum5 ++ (sum6 ++ (sum7 ++ (sum8 ++ sum9)))))))

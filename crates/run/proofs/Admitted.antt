@@ -10,7 +10,7 @@ use Rattle.rules.specs.Calls.{Worked, stoppedAtOnce, worked, run}
 use Rattle.rules.specs.Runs as runs
 use Rattle.rules.proofs.Running.Runs.{run-refused, run-checked}
 use Rattle.run.specs.declared.Ended.{Ended}
-use Rattle.run.specs.Sums.{counted}
+use Rattle.run.specs.Sums.{addedTally}
 use Rattle.run.specs.Working.{whole, Ends}
 use Rattle.run.specs.Admits.{RunAdmits}
 
@@ -32,7 +32,7 @@ module _ (slots : List ℕ) (F : Forecast) (bytes : List ℕ) (allowance : ℕ) 
       }
 
   -- or it works the records
-  pub run-ended : check slots F ≡ 0 → (r : Ended) (left : List ℕ) (T′ : Totals) → Ends slots F bytes allowance r left → T′ ≡ counted T (r .tally)
+  pub run-ended : check slots F ≡ 0 → (r : Ended) (left : List ℕ) (T′ : Totals) → Ends slots F bytes allowance r left → T′ ≡ addedTally T (r .tally)
       → RunAdmits slots F bytes allowance T (record {
         reply = record { worked = r .tally .worked; refused = r .tally .refused; moves = r .tally .moves; stop = r .stop; place = r .tally .place; forecast = r .forecast };
         totals = T′;

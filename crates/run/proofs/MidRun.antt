@@ -15,7 +15,7 @@ use Rattle.rules.specs.declared.Request.{Request}
 use Rattle.rules.specs.Shares.{Shares, shares}
 use Rattle.rules.specs.Placing.{Room, Outcome, outcome}
 use Rattle.rules.specs.Calls.{roomOf}
-use Rattle.forecast.specs.Held.{Roomy}
+use Rattle.forecast.specs.Tidy.{Roomy}
 use Rattle.rules.specs.Runs as runs
 use Rattle.rules.specs.Runs.{requestOf, isBad, recordsOf, one, Ran, stopped, ran, work, tallied}
 use Rattle.rules.proofs.Running.Records.{records-nil, records-cons, short-bad}

@@ -4,7 +4,7 @@ use Prim.Native.Nat.{ℕ, _+_, _<_, _^_, _%_}
 use native.Mathlib.Omega.{arith}
 use Rattle.rules.specs.declared.Totals.{Totals}
 use Rattle.rules.specs.Runs.{Tally, added}
-use Rattle.run.specs.Sums.{gap, since}
+use Rattle.run.specs.Sums.{growth, since}
 use Rattle.run.specs.Differences.{Reading}
 
 abbrev pub totals : ℕ → ℕ → ℕ → ℕ → Totals
@@ -18,15 +18,15 @@ same-totals p q r s = λ i. totals (p i) (q i) (r i) (s i)
 pub cut : (x y : ℕ) → (x + y % 2 ^ 32) % 2 ^ 32 ≡ (x + y) % 2 ^ 32
 cut x y = omega arith
 
-gap-of-sum : (x y : ℕ) → x < 2 ^ 32 → gap ((x + y) % 2 ^ 32) x ≡ y % 2 ^ 32
-gap-of-sum x y h = omega arith
+growth-of-sum : (x y : ℕ) → x < 2 ^ 32 → growth ((x + y) % 2 ^ 32) x ≡ y % 2 ^ 32
+growth-of-sum x y h = omega arith
 
 -- two readings, one before and one after a run, subtract to what the run has counted modulo 2^32, also where a total has wrapped between them
 pub since-added : (T : Totals) (n : Tally) → Reading T
     → since (added T n) T ≡ totals (n .worked % 2 ^ 32) (n .refused % 2 ^ 32) (n .moves % 2 ^ 32) (n .sweeps % 2 ^ 32)
 since-added T n h =
-    same-totals (gap-of-sum (T .worked) (n .worked) (h .worked)) (gap-of-sum (T .refused) (n .refused) (h .refused))
-    (gap-of-sum (T .moved) (n .moves) (h .moved)) (gap-of-sum (T .sweeps) (n .sweeps) (h .sweeps))
+    same-totals (growth-of-sum (T .worked) (n .worked) (h .worked)) (growth-of-sum (T .refused) (n .refused) (h .refused))
+    (growth-of-sum (T .moved) (n .moves) (h .moved)) (growth-of-sum (T .sweeps) (n .sweeps) (h .sweeps))
 
 -- and to nothing where nothing was added
 pub since-same : (T : Totals) → Reading T → since T T ≡ totals 0 0 0 0

@@ -8,17 +8,17 @@ use Rattle.run.specs.declared.Tally.{Tally}
 abbrev pub numbers : Tally → runs.Tally
 numbers t = record { worked = t .worked; refused = t .refused; moves = t .moves; sweeps = t .sweeps; place = t .place }
 
-abbrev pub counted : Totals → Tally → Totals
-counted T t = runs.added T (numbers t)
+abbrev pub addedTally : Totals → Tally → Totals
+addedTally T t = runs.added T (numbers t)
 
 -- What must be added to `earlier` to give `later`, modulo 2^32.
-abbrev pub gap : ℕ → ℕ → ℕ
-gap later earlier = (later + 2 ^ 32 - earlier) % 2 ^ 32
+abbrev pub growth : ℕ → ℕ → ℕ
+growth later earlier = (later + 2 ^ 32 - earlier) % 2 ^ 32
 
 abbrev pub since : Totals → Totals → Totals
 since later earlier = record {
-  worked = gap (later .worked) (earlier .worked);
-  refused = gap (later .refused) (earlier .refused);
-  moved = gap (later .moved) (earlier .moved);
-  sweeps = gap (later .sweeps) (earlier .sweeps);
+  worked = growth (later .worked) (earlier .worked);
+  refused = growth (later .refused) (earlier .refused);
+  moved = growth (later .moved) (earlier .moved);
+  sweeps = growth (later .sweeps) (earlier .sweeps);
 }

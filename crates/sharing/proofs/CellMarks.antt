@@ -24,7 +24,7 @@ use Rattle.slots.proofs.Halving.{place-of, found, not-found}
 use Rattle.forecast.specs.declared.Cell.{Cell}
 use Rattle.forecast.specs.declared.Forecast.{Forecast}
 use Rattle.forecast.specs.Cells.{cells, zeroCell, usedCells, cellAt, weight}
-use Rattle.forecast.specs.Held.{Tidy, Fitting}
+use Rattle.forecast.specs.Tidy.{Tidy, Fitting}
 use Rattle.forecast.proofs.Stepping.{cells-used, cell-is}
 use Rattle.sharing.specs.Marks.{weightBelow, Marked}
 use Rattle.sharing.specs.Steps.{OneMarked}

@@ -6,7 +6,7 @@ ghost use lib.ListN.{length, take};
 ghost use Rattle.lists.specs.Lists.{insertAt};
 ghost use Rattle.slots.specs.Keys.{Rising};
 ghost use Rattle.forecast.specs.Cells.{usedCells, weight};
-ghost use Rattle.forecast.specs.Held.{Tidy, Fitting};
+ghost use Rattle.forecast.specs.Tidy.{Tidy, Fitting};
 ghost use Rattle.sharing.specs.Marks.{Marked};
 ghost use Rattle.sharing.specs.Steps.{OneMarked};
 use crate::passing::mark_from;

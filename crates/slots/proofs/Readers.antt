@@ -20,7 +20,7 @@ use Rattle.slots.specs.declared.Order.the-variants.{Kept, NotRising, Aft
 use Rattle.slots.specs.Segments.{isKey, live}
 use Rattle.slots.specs.Orders.{slotAt, notRising, afterGap, orderOf, isKept}
 use Rattle.slots.specs.Shown.{Reads}
-use Rattle.slots.specs.Stretches.{Sound, faultOf}
+use Rattle.slots.specs.Stretches.{Sound, breakOf}
 use Rattle.slots.proofs.Orders.{in-list, fault, falls, gaps, falling}
 
 -- THE ORDER THAT IS TOLD
@@ -116,11 +116,11 @@ module _ {xs : List ℕ} where
     }
 
     -- and where slot j breaks the order
-    pub sound-fault : slotAt xs j ≢ 0 → T (fault xs j) → Reads xs (record { order = faultOf (slotAt xs j) top j; keys = 0 })
+    pub sound-fault : slotAt xs j ≢ 0 → T (fault xs j) → Reads xs (record { order = breakOf (slotAt xs j) top j; keys = 0 })
     sound-fault key t = record { order = sym told; few = omega arith; keys = λ k. absurd (never (subst (λ (o : Order). T (isKept o)) told k)) }
       where
-        told : orderOf xs ≡ faultOf (slotAt xs j) top j
+        told : orderOf xs ≡ breakOf (slotAt xs j) top j
         told = order-at xs j (in-list xs j key) (s .faultless) t ∙ ap {B = Order} (λ b. if b then NotRising j else AfterGap j) (sound-test key)
 
-        never : ¬ (T (isKept (faultOf (slotAt xs j) top j)))
+        never : ¬ (T (isKept (breakOf (slotAt xs j) top j)))
         never = either (λ (o : Order). ¬ (T (isKept o))) (leb (slotAt xs j) top) (λ u. u) (λ u. u)

@@ -15,7 +15,7 @@ use Rattle.slots.specs.declared.Order.{Order}
 use Rattle.slots.specs.Segments.{isKey, live, segmentsOf}
 use Rattle.slots.specs.Orders.{isKept}
 use Rattle.slots.specs.Shown.{Reads, Counted, Tallied}
-use Rattle.slots.specs.Stretches.{Sound, faultOf}
+use Rattle.slots.specs.Stretches.{Sound, breakOf}
 use Rattle.slots.proofs.Tallies.{counted-more}
 
 part-at : (n : ℕ) (xs : List ℕ) (s : ℕ) → s < n → getD (parts 64 n xs) s [] ≡ take 64 (drop (64 * s) xs)
@@ -62,8 +62,8 @@ module _ (xs : List ℕ) where
       }
 
   -- or the order is not kept
-  pub tally-none : {counts counts′ : List ℕ} {o : Order} (x top j : ℕ) → Reads xs (record { order = o; keys = 0 }) → o ≡ faultOf x top j → length counts′ ≡ length counts → Tallied xs counts counts′
+  pub tally-none : {counts counts′ : List ℕ} {o : Order} (x top j : ℕ) → Reads xs (record { order = o; keys = 0 }) → o ≡ breakOf x top j → length counts′ ≡ length counts → Tallied xs counts counts′
   tally-none {counts} {counts′} {o} x top j r told l = record { long = l; places = λ t. absurd (never (subst (λ (o : Order). T (isKept o)) (sym (r .order) ∙ told) t)) }
     where
-      never : ¬ (T (isKept (faultOf x top j)))
+      never : ¬ (T (isKept (breakOf x top j)))
       never = either (λ (o : Order). ¬ (T (isKept o))) (leb x top) (λ u. u) (λ u. u)

@@ -11,7 +11,7 @@ use Rattle.lists.proofs.Tests.{or-left, or-right}
 use Rattle.slots.specs.declared.Order.{Order}
 use Rattle.slots.specs.Orders.{slotAt, notRising, afterGap}
 use Rattle.slots.specs.Shown.{Reads}
-use Rattle.slots.specs.Stretches.{before, Rises, AllGaps, Sound, faultOf}
+use Rattle.slots.specs.Stretches.{before, Rises, AllGaps, Sound, breakOf}
 use Rattle.slots.proofs.Orders.{fault, gapping}
 use Rattle.slots.proofs.Readers.{sound-as, sound-key, sound-gap, sound-low, sound-fault}
 use Rattle.slots.proofs.Stretched.{before-first, before-next}
@@ -55,7 +55,7 @@ module _ (xs : List ℕ) where
       segment-sound h = sound-as (omega (arith, rest .to)) refl refl to-stop
 
       -- they end at a key before it
-      pub segment-fault : j < e → {o : Order} → o ≡ faultOf (slotAt xs j) top j → Reads xs (record { order = o; keys = 0 })
+      pub segment-fault : j < e → {o : Order} → o ≡ breakOf (slotAt xs j) top j → Reads xs (record { order = o; keys = 0 })
       segment-fault h told = subst (λ (o : Order). Reads xs (record { order = o; keys = 0 })) (sym told) (sound-fault to-stop key broken)
         where
           key : slotAt xs j ≢ 0

@@ -52,5 +52,5 @@ pub record Sound (slots : List ℕ) (j top keys : ℕ) : Type 0 where
   pub many : keys ≡ length (live (take j slots))
 
 -- How the key x breaks the order at slot j, where top is the largest key before it.
-abbrev pub faultOf : ℕ → ℕ → ℕ → Order
-faultOf x top j = if leb x top then NotRising j else AfterGap j
+abbrev pub breakOf : ℕ → ℕ → ℕ → Order
+breakOf x top j = if leb x top then NotRising j else AfterGap j

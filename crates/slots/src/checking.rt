@@ -6,7 +6,7 @@ ghost use lib.ListN.{length};
 ghost use Rattle.slots.specs.Orders.{isKept};
 ghost use Rattle.slots.specs.Segments.{heightOf};
 ghost use Rattle.slots.specs.Shown.{Reads, Tallied};
-ghost use Rattle.slots.specs.Stretches.{Rises, AllGaps, Sound, before, faultOf};
+ghost use Rattle.slots.specs.Stretches.{Rises, AllGaps, Sound, before, breakOf};
 use crate::Order;
 use crate::Reading;
 
@@ -174,7 +174,7 @@ fn slot_before(list: &[u64], a: usize, i: usize, last: u64) -> u64
 
 // How `key` breaks the order at slot `at`, where `top` is the largest key before it.
 fn fault_of(key: u64, top: u64, at: usize) -> Order
-    ensures { λ r. ⌜ r ≡ faultOf key top at ⌝ }
+    ensures { λ r. ⌜ r ≡ breakOf key top at ⌝ }
 {
     if key <= top {
         return Order::NotRising(at);

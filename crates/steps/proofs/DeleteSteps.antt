@@ -17,7 +17,7 @@ use Rattle.slots.proofs.Seats.{seat-live}
 use Rattle.forecast.specs.declared.Forecast.{Forecast}
 use Rattle.forecast.specs.Cells.{usedCells, forecastOf}
 use Rattle.forecast.specs.Steps.{dropped}
-use Rattle.forecast.specs.Held.{Became}
+use Rattle.forecast.specs.Tidy.{Became}
 use Rattle.forecast.proofs.Became.{is-became, dropped-few}
 use Rattle.rules.specs.declared.Request.the-variants.{Delete}
 use Rattle.rules.specs.Shares.{shares}

@@ -10,12 +10,12 @@ use Rattle.slots.specs.Segments.{isKey, keys, heightOf, segmentsOf}
 use Rattle.slots.specs.Shown.{Shows}
 use Rattle.forecast.specs.declared.Forecast.{Forecast}
 use Rattle.forecast.specs.Cells.{usedCells}
-use Rattle.forecast.specs.Held.{Tidy}
+use Rattle.forecast.specs.Tidy.{Tidy}
 use Rattle.forecast.proofs.Became.{is-became}
 use Rattle.rules.specs.Shares.{Shares, shares, capacity}
 use Rattle.rules.specs.Checks.{sharesOf, checkList}
 use Rattle.rules.specs.Calls.{roomOf}
-use Rattle.forecast.specs.Held.{Roomy}
+use Rattle.forecast.specs.Tidy.{Roomy}
 use Rattle.rules.proofs.Sharing.Table.{ends}
 use Rattle.rules.proofs.Requests.StaysGood.{Good}
 use Rattle.rules.proofs.Requests.Checked.{Passed, passed, list-passes, checked, keys-shown, forecast-shown}

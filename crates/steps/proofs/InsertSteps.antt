@@ -16,7 +16,7 @@ use Rattle.forecast.specs.declared.Cell.{Cell}
 use Rattle.forecast.specs.declared.Forecast.{Forecast}
 use Rattle.forecast.specs.Cells.{usedCells, forecastOf}
 use Rattle.forecast.specs.Steps.{noted}
-use Rattle.forecast.specs.Held.{Became}
+use Rattle.forecast.specs.Tidy.{Became}
 use Rattle.forecast.proofs.Became.{is-became, noted-few}
 use Rattle.rules.specs.declared.Request.the-variants.{Insert}
 use Rattle.rules.specs.Checks.{sharesOf}

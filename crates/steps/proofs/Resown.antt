@@ -11,7 +11,7 @@ use Rattle.slots.specs.Shown.{Shows}
 use Rattle.forecast.specs.declared.Forecast.{Forecast}
 use Rattle.forecast.specs.Cells.{usedCells}
 use Rattle.forecast.specs.Steps.{aimed, retargeted}
-use Rattle.forecast.specs.Held.{Became, Live}
+use Rattle.forecast.specs.Tidy.{Became, Live}
 use Rattle.forecast.proofs.Became.{became-is}
 use Rattle.rules.specs.declared.Request.{Request}
 use Rattle.rules.specs.Placing.{Outcome, accept, outcome}

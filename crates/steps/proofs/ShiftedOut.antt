@@ -23,7 +23,7 @@ use Rattle.forecast.specs.Cells.{usedCells, forecastOf}
 use Rattle.forecast.specs.Steps.{dropped, retargeted}
 use Rattle.forecast.proofs.Became.{became-is}
 use Rattle.rules.specs.declared.Request.the-variants.{Delete}
-use Rattle.rules.specs.Shares.{shares, floor}
+use Rattle.rules.specs.Shares.{shares, sparseBelow}
 use Rattle.rules.specs.Placing.{accept, cutFrom, deleteLevel, outcome}
 use Rattle.rules.specs.Checks.{sharesOf}
 use Rattle.rules.specs.Calls.{roomOf}
@@ -92,13 +92,13 @@ module _ (slots : List ℕ) (F N : Forecast) (h n y : ℕ) (p : Place) (D : Dele
 
   -- the rules' outcome, where no window is swept
   module _ (u : Unswept slots h y) where
-    shifted : outcome (sharesOf slots) (Delete y) (roomOf slots F) ≡ accept (cutFrom y (segmentsOf slots)) (dropped y (usedCells F)) (p .held - p .at - 1) false (ltb (n - 1) (floor (shares h)))
+    shifted : outcome (sharesOf slots) (Delete y) (roomOf slots F) ≡ accept (cutFrom y (segmentsOf slots)) (dropped y (usedCells F)) (p .held - p .at - 1) false (ltb (n - 1) (sparseBelow (shares h)))
     shifted =
         let few : length (keys (cutFrom y (segmentsOf slots))) ≡ n - 1 = omega (arith, keys-cut-one) in
         delete-stays (sharesOf slots) y (roomOf slots F) (omega (arith, shows .listed .live y mem)) (D .live)
         (subst (λ (k : ℕ). deleteLevel (shares k) y (segmentsOf slots) ≡ none) (sym (D .valid .height)) u)
-        ∙ ap₂ (λ (k m : ℕ). accept (cutFrom y ss) (dropped y (usedCells F)) m false (ltb (length (keys (cutFrom y ss))) (floor (shares k)))) (D .valid .height) above-there
-        ∙ ap (λ (k : ℕ). accept (cutFrom y ss) (dropped y (usedCells F)) (p .held - p .at - 1) false (ltb k (floor (shares h)))) few
+        ∙ ap₂ (λ (k m : ℕ). accept (cutFrom y ss) (dropped y (usedCells F)) m false (ltb (length (keys (cutFrom y ss))) (sparseBelow (shares k)))) (D .valid .height) above-there
+        ∙ ap (λ (k : ℕ). accept (cutFrom y ss) (dropped y (usedCells F)) (p .held - p .at - 1) false (ltb k (sparseBelow (shares h)))) few
 
     module _ (left : ℕ) where
       -- its moves are over what is left
@@ -107,7 +107,7 @@ module _ (slots : List ℕ) (F N : Forecast) (h n y : ℕ) (p : Place) (D : Dele
 
       -- they are not, and the segment has come back closed up
       pub shift-out-done : (a e : ℕ) (last : List ℕ) → p .held - p .at - 1 ≤ left → a ≡ 64 * p .segment → e ≡ a + 64 → last ≡ closed 0 (p .held) (p .at) (take (e - a) (drop a slots))
-          → Steps left (Delete y) slots F (record { effect = Done; forecast = N; moves = p .held - p .at - 1; swept = false; sparse = ltb (n - 1) (floor (shares h)); keys = n - 1 })
+          → Steps left (Delete y) slots F (record { effect = Done; forecast = N; moves = p .held - p .at - 1; swept = false; sparse = ltb (n - 1) (sparseBelow (shares h)); keys = n - 1 })
           (putMid a (e - a) slots last)
       shift-out-done a e last l b d r = step-done left (Delete y) slots F _ _ _ _ _ shifted N (n - 1) (putMid a (e - a) slots last) l cells-aim
           (omega (arith, keys-cut-one))

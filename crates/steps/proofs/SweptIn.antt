@@ -22,7 +22,7 @@ use Rattle.forecast.specs.declared.Cell.{Cell}
 use Rattle.forecast.specs.declared.Forecast.{Forecast}
 use Rattle.forecast.specs.Cells.{usedCells, weight}
 use Rattle.forecast.specs.Steps.{retargeted}
-use Rattle.forecast.specs.Held.{Became, Live}
+use Rattle.forecast.specs.Tidy.{Became, Live}
 use Rattle.rules.specs.declared.Request.the-variants.{Insert}
 use Rattle.rules.specs.Shares.{shares, capacity}
 use Rattle.rules.specs.Placing.{Outcome, accept, home, putIn, chosen, insertLevel, frontWeight, sweep, outcome}
@@ -64,7 +64,7 @@ module _ (slots : List ℕ) (F N : Forecast) (h n y : ℕ) (p : Place) (I : Inse
   good = subst (λ (k : ℕ). Good (shares k) (roomOf slots F)) (I .valid .height) (good-valid slots F h n (I .valid))
 
   many : length (segmentsOf slots) ≡ 2 ^ h
-  many = good .proper .number
+  many = good .proper .size
 
   some-segments : 0 < length (segmentsOf slots)
   some-segments = omega (arith, many, pow-pos h)

@@ -20,9 +20,9 @@ use Rattle.forecast.specs.declared.Cell.{Cell}
 use Rattle.forecast.specs.declared.Forecast.{Forecast}
 use Rattle.forecast.specs.Cells.{usedCells, weight}
 use Rattle.forecast.specs.Steps.{retargeted}
-use Rattle.forecast.specs.Held.{Became, Live}
+use Rattle.forecast.specs.Tidy.{Became, Live}
 use Rattle.rules.specs.declared.Request.the-variants.{Delete}
-use Rattle.rules.specs.Shares.{shares, floor}
+use Rattle.rules.specs.Shares.{shares, sparseBelow}
 use Rattle.rules.specs.Placing.{Outcome, accept, cutFrom, chosen, deleteLevel, frontWeight, sweep, outcome}
 use Rattle.rules.specs.Readings.{Limits, Smallest}
 use Rattle.rules.specs.Checks.{sharesOf}
@@ -70,7 +70,7 @@ module _ (slots : List ℕ) (F N : Forecast) (h n y : ℕ) (p : Place) (D : Dele
   good = subst (λ (k : ℕ). Good (shares k) (roomOf slots F)) (D .valid .height) (good-valid slots F h n (D .valid))
 
   many : length (segmentsOf slots) ≡ 2 ^ h
-  many = good .proper .number
+  many = good .proper .size
 
   mem : Mem y (keys (segmentsOf slots))
   mem = member→mem y (keys (segmentsOf slots)) (D .live)
@@ -133,13 +133,13 @@ module _ (slots : List ℕ) (F N : Forecast) (h n y : ℕ) (p : Place) (D : Dele
       abbrev after : Segments
       after = sweep (shares h) (r .level) (segmentOf (segmentsOf slots) y) (usedCells N) (cutFrom y (segmentsOf slots))
 
-      swept : outcome (sharesOf slots) (Delete y) (roomOf slots F) ≡ accept after (usedCells N) (r .keys) true (ltb (n - 1) (floor (shares h)))
+      swept : outcome (sharesOf slots) (Delete y) (roomOf slots F) ≡ accept after (usedCells N) (r .keys) true (ltb (n - 1) (sparseBelow (shares h)))
       swept =
           let k : length (keys (cutFrom y (segmentsOf slots))) ≡ n - 1 = omega (arith, keys-cut-one slots F N h n y p D) in
           ap (λ (k : ℕ). outcome (shares k) (Delete y) (roomOf slots F)) (D .valid .height)
           ∙ delete-swept (shares h) y (roomOf slots F) (omega (arith, shows .listed .live y mem)) (D .live) (r .level) under taken
-          ∙ ap₂ (λ (cs : List Cell) (m : ℕ). accept (sweep (shares h) (r .level) s cs (cutFrom y ss)) cs m true (ltb (length (keys (cutFrom y ss))) (floor (shares h)))) (sym (D .after .is)) (sym moves-are)
-          ∙ ap (λ (m : ℕ). accept after (usedCells N) (r .keys) true (ltb m (floor (shares h)))) k
+          ∙ ap₂ (λ (cs : List Cell) (m : ℕ). accept (sweep (shares h) (r .level) s cs (cutFrom y ss)) cs m true (ltb (length (keys (cutFrom y ss))) (sparseBelow (shares h)))) (sym (D .after .is)) (sym moves-are)
+          ∙ ap (λ (m : ℕ). accept after (usedCells N) (r .keys) true (ltb m (sparseBelow (shares h)))) k
 
       -- over what is left: nothing changes
       pub resow-out-over : (left : ℕ) → left < r .keys → Steps left (Delete y) slots F (idle Over F n) slots
@@ -185,9 +185,9 @@ module _ (slots : List ℕ) (F N : Forecast) (h n y : ℕ) (p : Place) (D : Dele
           pub resow-out-done : (left : ℕ) (N′ : Forecast) (last : List ℕ) → r .keys ≤ left
               → last ≡ shared h (r .level) N front (cut y (keys (segmentsOf (take (e - a) (drop a slots)))))
               → ((ts : Segments) → Shows ts (putMid a (e - a) slots last) → Live ts N → Became (retargeted (segmentOf ts) (usedCells N)) N′)
-              → Steps left (Delete y) slots F (record { effect = Done; forecast = N′; moves = r .keys; swept = true; sparse = ltb (n - 1) (floor (shares h)); keys = n - 1 }) (putMid a (e - a) slots last)
+              → Steps left (Delete y) slots F (record { effect = Done; forecast = N′; moves = r .keys; swept = true; sparse = ltb (n - 1) (sparseBelow (shares h)); keys = n - 1 }) (putMid a (e - a) slots last)
           resow-out-done left N′ last l w aim =
-              resown slots F N h n (D .valid) (Delete y) after (r .keys) (ltb (n - 1) (floor (shares h))) swept left (n - 1) N′ (putMid a (e - a) slots last) l
+              resown slots F N h n (D .valid) (Delete y) after (r .keys) (ltb (n - 1) (sparseBelow (shares h))) swept left (n - 1) N′ (putMid a (e - a) slots last) l
               (put-back ss slots shows (r .level) s m first a e size at-seat from to _ last
               (w ∙ ap₂ (λ (f : ℕ) (t : Segments). shared h (r .level) N f (cut y (keys t))) front-is part-is)
               ∙ ap (render 0) (sym (sweep-cut y ss (shows .listed) mem (shares h) (r .level) (usedCells N))))

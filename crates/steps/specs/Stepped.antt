@@ -14,7 +14,7 @@ use Rattle.slots.specs.Shown.{Located}
 use Rattle.forecast.specs.declared.Forecast.{Forecast}
 use Rattle.forecast.specs.Cells.{usedCells, forecastOf}
 use Rattle.forecast.specs.Steps.{noted, dropped}
-use Rattle.forecast.specs.Held.{Became}
+use Rattle.forecast.specs.Tidy.{Became}
 use Rattle.rules.specs.declared.Request.{Request}
 use Rattle.rules.specs.Shares.{shares, capacity}
 use Rattle.rules.specs.Placing.{Outcome, home, deleteLevel, outcome}

@@ -8,7 +8,7 @@ use Rattle.slots.specs.Keys.{Rising}
 use Rattle.slots.specs.Shown.{Shows}
 use Rattle.forecast.specs.declared.Forecast.{Forecast}
 use Rattle.forecast.specs.Cells.{usedCells, weight}
-use Rattle.forecast.specs.Held.{Tidy, Fitting}
+use Rattle.forecast.specs.Tidy.{Tidy, Fitting}
 use Rattle.rules.specs.Shares.{shares}
 use Rattle.rules.specs.SharingOut.{shareOut}
 use Rattle.sharing.specs.Plans.{Planned}

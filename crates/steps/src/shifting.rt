@@ -6,7 +6,7 @@ ghost use Rattle.steps.specs.Stepped.{Inserting, Deleting, Unswept, Step
 use crate::Effect;
 use crate::Step;
 ghost use lib.Dec.{ltb};
-ghost use Rattle.rules.specs.Shares.{shares, floor};
+ghost use Rattle.rules.specs.Shares.{shares, sparseBelow};
 use forecast::Forecast;
 use slots::Place;
 
@@ -90,7 +90,7 @@ pub fn shift_out(
 // A list of height `h` with so many keys is sparse.
 pub fn is_sparse(keys: usize, h: usize) -> bool
     requires { ⌜ (1 ≤ h) × (h ≤ 6) ⌝ }
-    ensures { λ r. ⌜ r ≡ ltb keys (floor (shares h)) ⌝ }
+    ensures { λ r. ⌜ r ≡ ltb keys (sparseBelow (shares h)) ⌝ }
 {
     keys < 13 * sharing::table::power(h)
 }

@@ -5,7 +5,7 @@ ghost use mathlib.Core.Bool.{not};
 ghost use lib.Dec.{T, eqb};
 ghost use Rattle.lists.specs.Choice.{if_then_else_};
 ghost use Rattle.forecast.specs.Cells.{usedCells, weight};
-ghost use Rattle.forecast.specs.Held.{Tidy};
+ghost use Rattle.forecast.specs.Tidy.{Tidy};
 ghost use lib.ListN.{length, take};
 ghost use Rattle.slots.specs.Segments.{keys, segmentsOf};
 ghost use Rattle.slots.specs.Keys.{member, put, cut};

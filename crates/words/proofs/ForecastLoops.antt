@@ -8,7 +8,7 @@ use Rattle.lists.proofs.Overwritten.{written, written-more, written-done}
 use Rattle.forecast.specs.declared.Cell.{Cell}
 use Rattle.forecast.specs.declared.Forecast.{Forecast}
 use Rattle.forecast.specs.Cells.{zeroCell, cells}
-use Rattle.forecast.specs.Held.{Roomy}
+use Rattle.forecast.specs.Tidy.{Roomy}
 use Rattle.forecast.proofs.Stepping.{roomy-12, roomy-at}
 use Rattle.words.specs.Words.{cellsIn, forecastWords}
 use Rattle.words.proofs.WordLaws.{cells-long, words-long, cellFrom, cell-in, words-in}

@@ -22,7 +22,7 @@ use Rattle.forecast.specs.declared.Forecast.{Forecast}
 use Rattle.forecast.specs.declared.Fault.the-variants.{Sound, TooMany}
 use Rattle.forecast.specs.Cells.{cell, zeroCell, zip3, cells, usedCells, marks}
 use Rattle.forecast.specs.Faults.{faultAt, isSound, faultOf}
-use Rattle.forecast.specs.Held.{Roomy, Tidy, Marker}
+use Rattle.forecast.specs.Tidy.{Roomy, Tidy, Marker}
 use Rattle.forecast.proofs.Ruled.{Ruled, Placed}
 use Rattle.forecast.proofs.Checked.{fault-many}
 use Rattle.forecast.proofs.Faults.{sound-ruled}

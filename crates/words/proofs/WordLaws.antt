@@ -8,7 +8,7 @@ use lib.Seq.{getD-drop}
 use Rattle.forecast.specs.declared.Cell.{Cell}
 use Rattle.forecast.specs.declared.Forecast.{Forecast}
 use Rattle.forecast.specs.Cells.{cell, zeroCell, zip3, cells}
-use Rattle.forecast.specs.Held.{Roomy}
+use Rattle.forecast.specs.Tidy.{Roomy}
 use Rattle.forecast.proofs.Rows.{markers-zip, segments-zip, counts-zip}
 use Rattle.forecast.proofs.Stepping.{roomy-12}
 use Rattle.words.specs.Words.{cellsIn, cellWords, showing, forecastIn, forecastWords}

@@ -13,7 +13,7 @@ use Rattle.rules.specs.declared.Request.the-variants.{Insert, Delete}
 use Rattle.rules.specs.Shares.{shares}
 use Rattle.rules.specs.SharingOut.{leftShare, plan, shareOut}
 use Rattle.rules.specs.Placing.{Room, sweep, chosen, settled, insertLevel, insertKey, deleteLevel, deleteKey, outcome}
-use Rattle.rules.specs.Sums.{Case, Worked, Shared, gives, says, room, upFrom}
+use Rattle.rules.specs.Sums.{Case, Requested, Shared, gives, says, room, upFrom}
 
 -- the even numbers from 2 to 128
 abbrev evens : List ℕ
@@ -21,7 +21,7 @@ evens = map (λ n. 2 * n) (upFrom 1 64)
 
 -- Noting that changes the very split it precedes: 2 gets its weight from this insert, and 17 and 48 are not 33 and 32.
 abbrev notesFirst : Case
-notesFirst = Worked 2 (room (evens ∷ [] ∷ [] ∷ [] ∷ []) []) (Insert 3 ∷ []) (17 ∷ 48 ∷ 0 ∷ 0 ∷ 0 ∷ 65 ∷ 0 ∷ 1 ∷ 0 ∷ [])
+notesFirst = Requested 2 (room (evens ∷ [] ∷ [] ∷ [] ∷ []) []) (Insert 3 ∷ []) (17 ∷ 48 ∷ 0 ∷ 0 ∷ 0 ∷ 65 ∷ 0 ∷ 1 ∷ 0 ∷ [])
 
 -- The front's weight belongs to left halves only: the right half is shared evenly.
 abbrev frontLeft : Case
@@ -30,7 +30,7 @@ frontLeft = Shared 2 (cell 0 0 3 ∷ []) (upFrom 1 100) (10 ∷ 26 ∷ 32 ∷ 32
 -- and to windows that begin at slot 0: here segments 2 and 3 are swept, and only the last key weighs.
 abbrev frontElsewhere : Case
 frontElsewhere =
-    Worked 2 (room ((1 ∷ []) ∷ [] ∷ upFrom 101 64 ∷ [] ∷ []) (cell 0 0 3 ∷ [])) (Insert 200 ∷ []) (1 ∷ 0 ∷ 48 ∷ 17 ∷ 0 ∷ 65 ∷ 0 ∷ 2 ∷ 3 ∷ [])
+    Requested 2 (room ((1 ∷ []) ∷ [] ∷ upFrom 101 64 ∷ [] ∷ []) (cell 0 0 3 ∷ [])) (Insert 200 ∷ []) (1 ∷ 0 ∷ 48 ∷ 17 ∷ 0 ∷ 65 ∷ 0 ∷ 2 ∷ 3 ∷ [])
 
 -- A delete's climb that meets a window above its limits, at height 6: levels 1 to 4 are too sparse, level 5 holds 1,197 keys where 1,184
 -- are allowed, and the whole array is within limits.
@@ -46,7 +46,7 @@ lower = 19 ∷ 18 ∷ 19 ∷ 18 ∷ []
 
 abbrev crowdedWindow : Case
 crowdedWindow =
-    Worked 6 (room (deal crowdedCounts (upFrom 1 (total crowdedCounts))) []) (Delete 1 ∷ [])
+    Requested 6 (room (deal crowdedCounts (upFrom 1 (total crowdedCounts))) []) (Delete 1 ∷ [])
     (fours 7 ++ (lower ++ (fours 3 ++ (lower ++ (fours 3 ++ (lower ++ (0 ∷ 1197 ∷ 0 ∷ 0 ∷ 0 ∷ [])))))))
 
 -- The denominators of formula 6: with the two exchanged, or without the keys in them, the left half would take 13.
@@ -55,17 +55,17 @@ fractions = Shared 1 (cell 2 0 1 ∷ cell 15 0 5 ∷ []) (upFrom 1 43) (15 ∷ 2
 
 -- A shift's moves: the two keys above, and the new one.
 abbrev shifts : Case
-shifts = Worked 1 (room ((10 ∷ 20 ∷ 30 ∷ []) ∷ [] ∷ []) []) (Insert 15 ∷ []) (4 ∷ 0 ∷ 0 ∷ 3 ∷ 0 ∷ 1 ∷ 0 ∷ [])
+shifts = Requested 1 (room ((10 ∷ 20 ∷ 30 ∷ []) ∷ [] ∷ []) []) (Insert 15 ∷ []) (4 ∷ 0 ∷ 0 ∷ 3 ∷ 0 ∷ 1 ∷ 0 ∷ [])
 
 -- P at height 2 is 8: where 7 cells are used, an insert behind a key without one leaves 8; the next only takes from the tail, which goes.
 abbrev sevenCells : Room
 sevenCells = room (upFrom 1 8 ∷ [] ∷ [] ∷ [] ∷ []) (map (λ x. cell x 0 1) (upFrom 1 7))
 
 abbrev eighthCell : Case
-eighthCell = Worked 2 sevenCells (Insert 9 ∷ []) (9 ∷ 0 ∷ 0 ∷ 0 ∷ 0 ∷ 1 ∷ 0 ∷ 8 ∷ 0 ∷ [])
+eighthCell = Requested 2 sevenCells (Insert 9 ∷ []) (9 ∷ 0 ∷ 0 ∷ 0 ∷ 0 ∷ 1 ∷ 0 ∷ 8 ∷ 0 ∷ [])
 
 abbrev noNinthCell : Case
-noNinthCell = Worked 2 sevenCells (Insert 9 ∷ Insert 10 ∷ []) (10 ∷ 0 ∷ 0 ∷ 0 ∷ 0 ∷ 1 ∷ 0 ∷ 7 ∷ 0 ∷ [])
+noNinthCell = Requested 2 sevenCells (Insert 9 ∷ Insert 10 ∷ []) (10 ∷ 0 ∷ 0 ∷ 0 ∷ 0 ∷ 1 ∷ 0 ∷ 7 ∷ 0 ∷ [])
 
 abbrev ownCases : List Case
 ownCases = notesFirst ∷ frontLeft ∷ frontElsewhere ∷ crowdedWindow ∷ fractions ∷ shifts ∷ eighthCell ∷ noNinthCell ∷ []

@@ -14,7 +14,7 @@ use Rattle.slots.proofs.Heights.{height-is}
 use Rattle.slots.proofs.Render.{live-render}
 use Rattle.rules.specs.declared.Request.{Request}
 use Rattle.rules.specs.declared.Request.the-variants.{Insert, Delete}
-use Rattle.rules.specs.Shares.{shares, capacity, floor}
+use Rattle.rules.specs.Shares.{shares, capacity, sparseBelow}
 use Rattle.rules.specs.Placing.{Answer}
 use Rattle.rules.specs.Looking.{Found, Scanned, lookedUp, scanned}
 use Rattle.rules.specs.Checks.{sharesOf, checkList, check}
@@ -45,8 +45,8 @@ module _ (h : ℕ) (from : 1 ≤ h) (to : h ≤ 6) (H : Held) (ks : List ℕ) (I
   most : capacity (sharesOf (H .slots)) ≡ 32 * 2 ^ h
   most = ap (λ (n : ℕ). capacity (shares n)) (I .height) ∙ ap (λ (n : ℕ). 2 ^ h * n) (ends h from to .2) ∙ mul-comm (2 ^ h) 32
 
-  few : floor (sharesOf (H .slots)) ≡ 13 * 2 ^ h
-  few = ap (λ (n : ℕ). floor (shares n)) (I .height) ∙ ap (λ (n : ℕ). 2 ^ h * n) (ends h from to .3) ∙ mul-comm (2 ^ h) 13
+  few : sparseBelow (sharesOf (H .slots)) ≡ 13 * 2 ^ h
+  few = ap (λ (n : ℕ). sparseBelow (shares n)) (I .height) ∙ ap (λ (n : ℕ). 2 ^ h * n) (ends h from to .3) ∙ mul-comm (2 ^ h) 13
 
   -- INSERT AND DELETE
   number-insert : (y : ℕ) → request (Insert y) (H .slots) (H .forecast) .answer .number ≡ set.insertNumber (32 * 2 ^ h) y ks

@@ -21,7 +21,7 @@ use Rattle.rules.specs.Looking.{Found, Scanned, scanned}
 use Rattle.rules.specs.Checks.{sharesOf, checkList, check}
 use Rattle.rules.specs.Calls.{roomOf, Made, make, lookup, scan, Called, unchanged, changed, request}
 use Rattle.rules.specs.Rows.{Row, Tells, row1, row2, row3, row4, row5, row6, row7, row8, listRows, bothRows}
-use Rattle.forecast.specs.Held.{Roomy}
+use Rattle.forecast.specs.Tidy.{Roomy}
 use Rattle.rules.specs.Demand1.{MakeTells, CheckTells, CheckPasses, LookupTells, ScanTells, InsertTells, DeleteTells}
 use Rattle.rules.proofs.Requests.Accepted.{settled-number}
 use Rattle.rules.proofs.Sets.SetLookup.{looked-number}

@@ -18,13 +18,13 @@ use Rattle.slots.proofs.Keys.{segment-front}
 use Rattle.forecast.specs.declared.Cell.{Cell}
 use Rattle.forecast.specs.declared.Forecast.{Forecast}
 use Rattle.forecast.specs.Faults.{faultOf, isSound}
-use Rattle.forecast.specs.Held.{Marker}
+use Rattle.forecast.specs.Tidy.{Marker}
 use Rattle.forecast.proofs.Readings.{BadBy}
 use Rattle.forecast.proofs.Faults.{fault-bad, bad-fault}
 use Rattle.rules.specs.Shares.{cellsOf}
 use Rattle.rules.specs.Checks.{sharesOf}
 use Rattle.forecast.specs.Cells.{cells}
-use Rattle.forecast.specs.Held.{Roomy}
+use Rattle.forecast.specs.Tidy.{Roomy}
 use Rattle.forecast.proofs.Stepping.{roomy-12}
 use Rattle.rules.specs.Rows.{cellOf, WrongSegment, BadCell, noCount, overCount, anothers, notLive, wrongSegment, BadForecast, tooMany, badCell, notZero, row4}
 use Rattle.rules.proofs.Requests.Checked.{Passed, keys-shown}

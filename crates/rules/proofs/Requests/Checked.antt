@@ -25,7 +25,7 @@ use Rattle.rules.specs.Shares.{shares, capacity, cellsOf}
 use Rattle.rules.specs.Placing.{Room}
 use Rattle.rules.specs.Checks.{sharesOf, checkList, check}
 use Rattle.rules.specs.Calls.{roomOf}
-use Rattle.forecast.specs.Held.{Roomy}
+use Rattle.forecast.specs.Tidy.{Roomy}
 use Rattle.rules.specs.Readings.{Proper}
 use Rattle.rules.proofs.Sharing.Table.{ends}
 use Rattle.rules.proofs.Requests.StaysGood.{Good}
@@ -73,7 +73,7 @@ list-passes slots F e = both-pass slots F e .0
 module _ (slots : List ℕ) (P : Passed slots) where
   pub proper-segments : Proper (sharesOf slots) (segmentsOf slots)
   proper-segments = record {
-    number = length-segments slots (2 ^ heightOf (length slots)) (P .number);
+    size = length-segments slots (2 ^ heightOf (length slots)) (P .number);
     listed = listed-segments slots (2 ^ heightOf (length slots)) (P .number) (P .ordered);
   }
 
@@ -113,7 +113,7 @@ module _ (h : ℕ) (from : 1 ≤ h) (to : h ≤ 6) (R : Room) (G : Good (shares 
   fits x m = rw (ends h from to .0) at (G .sizes x m)
 
   pub length-good : length (render 0 (R .segments)) ≡ 64 * 2 ^ h
-  length-good = length-render 0 (R .segments) fits ∙ ap (λ (n : ℕ). 64 * n) (G .proper .number)
+  length-good = length-render 0 (R .segments) fits ∙ ap (λ (n : ℕ). 64 * n) (G .proper .size)
 
   pub height-render : heightOf (length (render 0 (R .segments))) ≡ h
   height-render = ap heightOf length-good ∙ height-is h from to

@@ -28,7 +28,7 @@ use Rattle.rules.proofs.Sets.SetLaws.{put-add, cut-remove}
 pub keys-kept : KeysKept
 keys-kept S (Insert y) R K t =
     rw (insert-accepted S y R t .is)
-    (keys-insert S y R (K .listed) (omega (arith, K .number, pow-pos (S .height))) (insert-accepted S y R t .fresh)
+    (keys-insert S y R (K .listed) (omega (arith, K .size, pow-pos (S .height))) (insert-accepted S y R t .fresh)
     ∙ put-add y (keys (R .segments)) (K .listed .rising) (insert-accepted S y R t .fresh))
 keys-kept S (Delete y) R K t =
     rw (delete-accepted S y R t .is)

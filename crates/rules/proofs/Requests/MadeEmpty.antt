@@ -28,7 +28,7 @@ no-size (suc n) m x i = elim (mem-cases i) [ inl e ↦ rw e (omega arith) | inr 
 
 pub good-empty : (h : ℕ) → Good (shares h) (emptyRoom h)
 good-empty h = record {
-  proper = record { number = length-replicate (2 ^ h) []; listed = record { rising = rw (no-keys (2 ^ h)) tt; live = rw (no-keys (2 ^ h)) (λ k m. absurd (nowhere m)) } };
+  proper = record { size = length-replicate (2 ^ h) []; listed = record { rising = rw (no-keys (2 ^ h)) tt; live = rw (no-keys (2 ^ h)) (λ k m. absurd (nowhere m)) } };
   sizes = no-size (2 ^ h) (shares h .high 0);
   room = rw (no-keys (2 ^ h)) (omega arith);
   ruled = record { few = omega arith; counts = λ c m. absurd (nowhere m); live = λ c m. absurd (nowhere m); apart = λ i j p q e. absurd (omega arith) };

@@ -52,7 +52,7 @@ module _ (S : Shares) (y : ℕ) (R : Room) (G : Good S R) where
   ss = R .segments
 
   some-segment : 0 < length (R .segments)
-  some-segment = omega (arith, G .proper .number, pow-pos (S .height))
+  some-segment = omega (arith, G .proper .size, pow-pos (S .height))
 
   insert-few : Inserts S y R → insertKey S y R .answer .moves ≤ capacity S
   unfolding insertKey

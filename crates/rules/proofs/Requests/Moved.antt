@@ -134,15 +134,15 @@ module _ (S : Shares) (y : ℕ) (R : Room) (K : Proper S (R .segments)) where
     cs = _;
     n = length (above y (getD (R .segments) (home y (R .segments)) [])) + 1;
     b = _;
-    fits = omega (arith, f, K .number);
-    number = length-set (R .segments) _ _ ∙ K .number;
+    fits = omega (arith, f, K .size);
+    number = length-set (R .segments) _ _ ∙ K .size;
     asked = asked-insert S y (R .segments) f e;
     change = λ l t. grown (R .segments) (home y (R .segments)) (put y (getD (R .segments) (home y (R .segments)) [])) f e l t (insertLevel S y (R .segments));
     result = refl;
   }
     where
       f : home y (R .segments) < length (R .segments)
-      f = home-between y (R .segments) (K .listed) (omega (arith, K .number, pow-pos (S .height))) (not-member y (keys (R .segments)) t) .0
+      f = home-between y (R .segments) (K .listed) (omega (arith, K .size, pow-pos (S .height))) (not-member y (keys (R .segments)) t) .0
 
       e : length (put y (getD (R .segments) (home y (R .segments)) [])) ≡ suc (length (getD (R .segments) (home y (R .segments)) []))
       e = length-put y (getD (R .segments) (home y (R .segments)) []) (λ k m. not-member y (keys (R .segments)) t k (in-part (R .segments) (home y (R .segments)) f k m))
@@ -154,8 +154,8 @@ module _ (S : Shares) (y : ℕ) (R : Room) (K : Proper S (R .segments)) where
     cs = _;
     n = length (above y (getD (R .segments) (segmentOf (R .segments) y) []));
     b = _;
-    fits = omega (arith, f, K .number);
-    number = length-set (R .segments) _ _ ∙ K .number;
+    fits = omega (arith, f, K .size);
+    number = length-set (R .segments) _ _ ∙ K .size;
     asked = asked-delete S y (R .segments) f;
     change = λ l t. shrunk (R .segments) (segmentOf (R .segments) y) (cut y (getD (R .segments) (segmentOf (R .segments) y) [])) f e l t (deleteLevel S y (R .segments));
     result = refl;
@@ -174,14 +174,14 @@ moved-number S R e o m =
 -- an accepted request
 pub moved : (S : Shares) (q : Request) (R : Room) → Proper S (R .segments) → T (accepted S q R)
     → Moved S R (eventAt S q R) (outcome S q R) × Proper S (outcome S q R .room .segments)
-moved S (Insert y) R K t = rw (a .is) (m, record { number = moved-number S R _ _ m; listed = listed-insert S y R (K .listed) (omega (arith, K .number, pow-pos (S .height))) (a .key) (a .fresh) })
+moved S (Insert y) R K t = rw (a .is) (m, record { size = moved-number S R _ _ m; listed = listed-insert S y R (K .listed) (omega (arith, K .size, pow-pos (S .height))) (a .key) (a .fresh) })
   where
     a : Inserts S y R
     a = insert-accepted S y R t
 
     m : Moved S R (eventAt S (Insert y) R) (insertKey S y R)
     m = moved-insert S y R K (a .fresh)
-moved S (Delete y) R K t = rw (a .is) (m, record { number = moved-number S R _ _ m; listed = listed-delete S y R (K .listed) p })
+moved S (Delete y) R K t = rw (a .is) (m, record { size = moved-number S R _ _ m; listed = listed-delete S y R (K .listed) p })
   where
     a : Deletes S y R
     a = delete-accepted S y R t

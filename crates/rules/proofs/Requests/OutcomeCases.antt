@@ -17,7 +17,7 @@ use Rattle.slots.proofs.Rising.{length-put, length-cut}
 use Rattle.slots.proofs.Keys.{not-member, keys-put, keys-cut}
 use Rattle.forecast.specs.Steps.{noted, dropped}
 use Rattle.rules.specs.declared.Request.the-variants.{Insert, Delete}
-use Rattle.rules.specs.Shares.{Shares, capacity, floor, cellsOf}
+use Rattle.rules.specs.Shares.{Shares, capacity, sparseBelow, cellsOf}
 use Rattle.rules.specs.Placing.{Room, refusedBy, accept, home, putIn, cutFrom, chosen, insertLevel, deleteLevel, sweep, settled, insertKey, deleteKey, outcome}
 use Rattle.rules.proofs.Sweeping.SweptWindow.{home-in, here-in}
 
@@ -84,7 +84,7 @@ module _ (S : Shares) (y : ℕ) (R : Room) where
     pub delete-stays : deleteLevel S y (R .segments) ≡ none
         → outcome S (Delete y) R
         ≡ accept (cutFrom y (R .segments)) (dropped y (R .cells)) (length (above y (getD (R .segments) (segmentOf (R .segments) y) []))) false
-        (ltb (length (keys (cutFrom y (R .segments)))) (floor S))
+        (ltb (length (keys (cutFrom y (R .segments)))) (sparseBelow S))
     unfolding deleteKey settled
     delete-stays e = delete-works ∙ rw e
 
@@ -92,6 +92,6 @@ module _ (S : Shares) (y : ℕ) (R : Room) where
     pub delete-swept : (l : ℕ) → length (cut y (getD (R .segments) (segmentOf (R .segments) y) [])) < S .low 0 → chosen S (segmentOf (R .segments) y) (cutFrom y (R .segments)) ≡ some l
         → outcome S (Delete y) R
         ≡ accept (sweep S l (segmentOf (R .segments) y) (dropped y (R .cells)) (cutFrom y (R .segments))) (dropped y (R .cells))
-        (count l (segmentOf (R .segments) y) (cutFrom y (R .segments))) true (ltb (length (keys (cutFrom y (R .segments)))) (floor S))
+        (count l (segmentOf (R .segments) y) (cutFrom y (R .segments))) true (ltb (length (keys (cutFrom y (R .segments)))) (sparseBelow S))
     unfolding deleteKey deleteLevel settled
     delete-swept l f e = delete-works ∙ rw (lt-ltb (length (cut y (getD (R .segments) (segmentOf (R .segments) y) []))) (S .low 0) f, e)

@@ -18,7 +18,7 @@ use Rattle.forecast.specs.declared.Cell.{Cell}
 use Rattle.forecast.specs.Steps.{noted, dropped}
 use Rattle.forecast.proofs.Ruled.{Ruled, Placed, wider}
 use Rattle.forecast.proofs.Kept.{noted-ruled, dropped-ruled, retargeted-ruled}
-use Rattle.forecast.specs.Held.{Marker}
+use Rattle.forecast.specs.Tidy.{Marker}
 use Rattle.rules.specs.declared.Request.{Request}
 use Rattle.rules.specs.declared.Request.the-variants.{Insert, Delete, Bad}
 use Rattle.rules.specs.Shares.{Shares, Lawful, capacity, cellsOf}
@@ -56,7 +56,7 @@ module _ (S : Shares) (y : ℕ) (R : Room) (P : Proper S (R .segments)) (C : Rul
       cs = noted (cellsOf S) (predecessor y (R .segments)) (home y (R .segments)) (R .cells)
 
       there : (k : ℕ) → Mem k (keys (R .segments)) → Mem k (keys (insertKey S y R .room .segments))
-      there k m = rw (keys-insert S y R (P .listed) (omega (arith, P .number, pow-pos (S .height))) (a .fresh)) (mem-put y (keys (R .segments)) k m)
+      there k m = rw (keys-insert S y R (P .listed) (omega (arith, P .size, pow-pos (S .height))) (a .fresh)) (mem-put y (keys (R .segments)) k m)
 
       still : (k : ℕ) → Marker (R .segments) k → Marker (insertKey S y R .room .segments) k
       still k (inl e) = inl e

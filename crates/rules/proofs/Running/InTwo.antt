@@ -19,7 +19,7 @@ use Rattle.rules.specs.Placing.{Room, Outcome, outcome}
 use Rattle.rules.specs.Checks.{sharesOf, check}
 use Rattle.rules.specs.Runs.{recordsOf, isBad, Tally, nothing, one, tallied, Ran, stopped, work, ran, added}
 use Rattle.rules.specs.Calls.{roomOf, Worked, worked, run}
-use Rattle.rules.specs.Demand1.{joined, RunInTwo}
+use Rattle.rules.specs.Demand1.{inTwo, RunInTwo}
 use Rattle.rules.proofs.Running.Records.{records-drop, records-take}
 use Rattle.rules.proofs.Requests.Checked.{checked, height-render, room-render, check-render}
 use Rattle.rules.proofs.Running.RequestsWorked.{work-end, work-bad, work-over, work-on}
@@ -149,7 +149,7 @@ added-twice T t u = λ i. record {
     twice : (x y z : ℕ) → (x + (y + z)) % 2 ^ 32 ≡ ((x + y) % 2 ^ 32 + z) % 2 ^ 32
     twice x y z = omega arith
 
-worked-since : (T : Totals) (r s : Ran) → worked T (since (r .tally) s) ≡ joined (worked T r) (worked (added T (r .tally)) s)
+worked-since : (T : Totals) (r s : Ran) → worked T (since (r .tally) s) ≡ inTwo (worked T r) (worked (added T (r .tally)) s)
 worked-since T r s = λ i. record {
   slots = render 0 (s .room .segments);
   forecast = forecastOf (s .room .cells);
@@ -178,11 +178,11 @@ module _ (slots : List ℕ) (F : Forecast) (first rest : List ℕ) (allowance : 
       (room-render (heightOf (length slots)) lo hi (W .room) (good-ran slots F first allowance T c))
 
   both : W .stop ≡ 0 → worked T (ran (sharesOf slots) allowance (first ++ rest) (roomOf slots F))
-      ≡ joined (worked T W) (run (render 0 (W .room .segments)) (forecastOf (W .room .cells)) rest (allowance - W .tally .moves) (added T (W .tally)))
+      ≡ inTwo (worked T W) (run (render 0 (W .room .segments)) (forecastOf (W .room .cells)) rest (allowance - W .tally .moves) (added T (W .tally)))
   both z =
       ap (worked T) (ran-in-two (sharesOf slots) allowance first rest (roomOf slots F) z)
       ∙ worked-since T W (ran (sharesOf slots) (allowance - W .tally .moves) rest (W .room))
-      ∙ ap (joined (worked T W)) (sym (again (allowance - W .tally .moves)))
+      ∙ ap (inTwo (worked T W)) (sym (again (allowance - W .tally .moves)))
 
 -- a run that ends with 0 has passed its check
 passes : (slots : List ℕ) (F : Forecast) (bytes : List ℕ) (allowance : ℕ) (T : Totals) → run slots F bytes allowance T .reply .stop ≡ 0 → check slots F ≡ 0

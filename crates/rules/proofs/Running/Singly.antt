@@ -19,7 +19,7 @@ use Rattle.rules.specs.Checks.{sharesOf, check}
 use Rattle.rules.specs.Runs.{Tally, nothing, one, tallied, recordsOf, Ran, ran, added}
 use Rattle.rules.specs.Calls.{roomOf, Called, unchanged, changed, request, Worked, worked}
 use Rattle.rules.specs.Rows.{Tells, row9, row10}
-use Rattle.forecast.specs.Held.{Roomy}
+use Rattle.forecast.specs.Tidy.{Roomy}
 use Rattle.rules.specs.Demand1.{Series, next, singly, begin, Equals, RunTells, RunIsSingly, RunKeeps}
 use Rattle.rules.proofs.Sharing.Table.{lawful}
 use Rattle.rules.proofs.Requests.Accepted.{refused-is}
@@ -139,7 +139,7 @@ module _ (slots : List ℕ) (F : Forecast) (bytes : List ℕ) (allowance : ℕ) 
 
   equals : Equals T ds (seriesOf (r .room) (r .tally)) (worked T r)
   equals = record {
-    number = number;
+    worked = number;
     good = ran-works (shares h) allowance bytes R .good;
     slots = refl;
     forecast = refl;

@@ -10,7 +10,7 @@ use Rattle.slots.specs.Segments.{keys}
 use Rattle.slots.specs.Keys.{Listed, member, segmentOf}
 use Rattle.slots.proofs.Keys.{member→mem, segment-mem, around, keys-cut}
 use Rattle.rules.specs.declared.Request.the-variants.{Insert, Delete}
-use Rattle.rules.specs.Shares.{Shares, capacity, floor}
+use Rattle.rules.specs.Shares.{Shares, capacity, sparseBelow}
 use Rattle.rules.specs.Placing.{Room, refusedBy, cutFrom, insertKey, deleteKey, outcome}
 use Rattle.rules.specs.PlainSet as set
 use Rattle.rules.proofs.Requests.Accepted.{settled-number, settled-sparse}
@@ -48,13 +48,13 @@ module _ (S : Shares) (y : ℕ) (R : Room) where
       m = member→mem y (keys (R .segments)) t
 
   pub delete-sparse : Listed (R .segments)
-      → outcome S (Delete y) R .answer .sparse ≡ eqb (set.deleteNumber y (keys (R .segments))) 0 && ltb (length (set.remove y (keys (R .segments)))) (floor S)
+      → outcome S (Delete y) R .answer .sparse ≡ eqb (set.deleteNumber y (keys (R .segments))) 0 && ltb (length (set.remove y (keys (R .segments)))) (sparseBelow S)
   unfolding outcome deleteKey
   delete-sparse g = rw (has-member y (keys (R .segments))) (go (eqb y 0) (member y (keys (R .segments))) (keys-then g))
     where
       go : (a b : Bool) → (T b → keys (cutFrom y (R .segments)) ≡ set.remove y (keys (R .segments)))
           → (if a then refusedBy 5 R else if not b then refusedBy 7 R else deleteKey S y R) .answer .sparse
-          ≡ eqb (if a then 5 else if b then 0 else 7) 0 && ltb (length (set.remove y (keys (R .segments)))) (floor S)
+          ≡ eqb (if a then 5 else if b then 0 else 7) 0 && ltb (length (set.remove y (keys (R .segments)))) (sparseBelow S)
       go true b e = refl
       go false false e = refl
-      go false true e = settled-sparse S _ _ _ _ _ _ ∙ ap (λ (ks : List ℕ). ltb (length ks) (floor S)) (e tt)
+      go false true e = settled-sparse S _ _ _ _ _ _ ∙ ap (λ (ks : List ℕ). ltb (length ks) (sparseBelow S)) (e tt)

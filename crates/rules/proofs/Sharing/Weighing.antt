@@ -17,7 +17,7 @@ use Rattle.forecast.specs.declared.Cell.{Cell}
 use Rattle.forecast.specs.declared.Forecast.{Forecast}
 use Rattle.forecast.specs.Cells.{zeroCell, cellAt, usedCells, weight}
 use Rattle.forecast.specs.Steps.{noted, dropped}
-use Rattle.forecast.specs.Held.{Marker, Fitting}
+use Rattle.forecast.specs.Tidy.{Marker, Fitting}
 use Rattle.forecast.proofs.Laws.{weight-at, weight-none}
 use Rattle.forecast.proofs.Ruled.{Ruled}
 use Rattle.forecast.proofs.Kept.{noted-ruled, dropped-ruled}

@@ -100,7 +100,7 @@ module _ (S : Shares) (L : Lawful S) (y : ℕ) (R : Room) (K : Proper S (R .segm
       seg = getD (R .segments) s []
 
       p : 0 < length (R .segments)
-      p = omega (arith, K .number, pow-pos (S .height))
+      p = omega (arith, K .size, pow-pos (S .height))
 
       f : home y (R .segments) < length (R .segments)
       f = home-between y (R .segments) (K .listed) p (not-member y (keys (R .segments)) t) .0
@@ -110,7 +110,7 @@ module _ (S : Shares) (L : Lawful S) (y : ℕ) (R : Room) (K : Proper S (R .segm
 
       none-fits : insertLevel S y (R .segments) ≡ none → length (put y (getD (R .segments) (home y (R .segments)) [])) ≤ S .high 0
       none-fits =
-          full-finds S L y (R .segments) (K .number) f e
+          full-finds S L y (R .segments) (K .size) f e
           (rw (keys-put y (R .segments) (home y (R .segments)) (home-between y (R .segments) (K .listed) p (not-member y (keys (R .segments)) t)))
           (omega (arith, length-put y (keys (R .segments)) (not-member y (keys (R .segments)) t))))
 
@@ -147,7 +147,7 @@ unfolding insertLevel
 insert-always-finds S L y ss K p n c f = rw (le-ltb (length (getD ss (home y ss) [])) (S .high 0) f) (k .0, k .1, climb-is S (home y ss) (putIn y ss) .0 (k .0) .0 (k .1))
   where
     b : (home y ss < length ss) × All (λ k. k < y) (keys (take (home y ss) ss)) × All (λ k. y < k) (keys (drop (suc (home y ss)) ss))
-    b = home-between y ss (K .listed) (omega (arith, K .number, pow-pos (S .height))) n
+    b = home-between y ss (K .listed) (omega (arith, K .size, pow-pos (S .height))) n
 
     more : S .high 0 < length (getD (putIn y ss) (home y ss) [])
     more =
@@ -158,4 +158,4 @@ insert-always-finds S L y ss K p n c f = rw (le-ltb (length (getD ss (home y ss)
     few = rw (keys-put y ss (home y ss) b) (omega (arith, length-put y (keys ss) n))
 
     k : (k : ℕ) × (chosen S (home y ss) (putIn y ss) ≡ some k) × (1 ≤ k) × (k ≤ S .height) × Limits S k k (count k (home y ss) (putIn y ss))
-    k = insert-finds S L (home y ss) (putIn y ss) (length-set ss _ _ ∙ K .number) (omega (arith, b .0, K .number)) more few
+    k = insert-finds S L (home y ss) (putIn y ss) (length-set ss _ _ ∙ K .size) (omega (arith, b .0, K .size)) more few

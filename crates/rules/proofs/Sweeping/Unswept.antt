@@ -21,7 +21,7 @@ use Rattle.slots.proofs.Keys.{member→mem, mem→member, not-member, segment-f
 use Rattle.forecast.specs.declared.Cell.{Cell}
 use Rattle.forecast.specs.Cells.{zeroCell, cellAt}
 use Rattle.forecast.specs.Steps.{raised, tailed, noted, dropped, aimed, retargeted}
-use Rattle.forecast.specs.Held.{Marker}
+use Rattle.forecast.specs.Tidy.{Marker}
 use Rattle.forecast.proofs.Laws.{noted-raised, noted-spent, noted-new, noted-full, raised-head, raised-past, tailed-gone, tailed-less, dropped-is, retargeted-is}
 use Rattle.forecast.proofs.Ruled.{Placed}
 use Rattle.rules.specs.Shares.{Shares, cellsOf}

@@ -6,7 +6,7 @@ use native.Mathlib.Omega.{arith}
 use lib.ListN.{getD, drop}
 use Rattle.lists.proofs.Overwritten.{written}
 use Rattle.forecast.specs.declared.Cell.{Cell}
-use Rattle.forecast.specs.Held.{Roomy}
+use Rattle.forecast.specs.Tidy.{Roomy}
 use Rattle.forecast.proofs.Stepping.{tidy-roomy}
 use Rattle.words.specs.Words.{capped, cellsIn}
 use Rattle.words.proofs.Capped.{capped-small}

@@ -5,7 +5,7 @@ use native.Mathlib.Omega.{arith}
 use borrow.Author.Needs.{needs}
 use lib.ListN.{length, length-set}
 use Rattle.lists.proofs.Overwritten.{written}
-use Rattle.forecast.specs.Held.{Roomy}
+use Rattle.forecast.specs.Tidy.{Roomy}
 use Rattle.words.specs.Words.{forecastWords}
 use Rattle.words.proofs.ForecastLoops.{write-start, write-turn, write-end}
 use Rattle.words.proofs.write_forecast.Statement.{statement}

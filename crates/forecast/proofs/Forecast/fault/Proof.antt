@@ -9,7 +9,7 @@ use borrow.Author.Needs.{needs}
 use borrow.Author.Tests.{not-true, not-false}
 use Rattle.slots.specs.Segments.{Segments}
 use Rattle.slots.specs.Shown.{Shows}
-use Rattle.forecast.specs.Held.{Roomy}
+use Rattle.forecast.specs.Tidy.{Roomy}
 use Rattle.forecast.specs.Faults.{faultAt, isSound}
 use Rattle.forecast.proofs.Stepping.{roomy-12, roomy-cell}
 use Rattle.forecast.proofs.Checked.{fault-many, fault-first, fault-none}

@@ -7,7 +7,7 @@ use Rattle.slots.specs.Segments.{Segments}
 use Rattle.slots.specs.Keys.{segmentOf}
 use Rattle.slots.specs.Shown.{Shows}
 use Rattle.forecast.specs.Cells.{usedCells}
-use Rattle.forecast.specs.Held.{Tidy, Live}
+use Rattle.forecast.specs.Tidy.{Tidy, Live}
 use Rattle.forecast.proofs.Stepping.{segments-row}
 use Rattle.forecast.proofs.Forecast.retarget.Proof.Lemmas.{tidy-aimed, aiming, marked, aim-more, aimed-all}
 use Rattle.forecast.proofs.Forecast.retarget.Statement.{statement}

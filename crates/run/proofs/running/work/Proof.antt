@@ -4,7 +4,7 @@ use mathlib.Core.Path.{_≡_, refl, sym, ap, _∙_, subst}
 use Prim.Native.Nat.{_-_}
 use native.Mathlib.Omega.{arith}
 use lib.ListN.{length}
-use Rattle.forecast.specs.Held.{Roomy}
+use Rattle.forecast.specs.Tidy.{Roomy}
 use Rattle.run.specs.declared.Tally.{Tally}
 use Rattle.run.proofs.MidRun.{Going, going-start, T-false, ends-whole, ends-bad, ends-over, small, goes-on}
 use borrow.Author.Needs.{needs}

@@ -6,7 +6,7 @@ use lib.ListN.{length, take, length-take}
 use lib.Seq.{take-all}
 use Rattle.slots.specs.Keys.{Rising}
 use Rattle.forecast.specs.Cells.{usedCells}
-use Rattle.forecast.specs.Held.{Fitting}
+use Rattle.forecast.specs.Tidy.{Fitting}
 use Rattle.forecast.proofs.Stepping.{cells-used, tidy-roomy, roomy-cell}
 use Rattle.sharing.proofs.CellMarks.{Marking, marking-none, marking-next}
 use Rattle.sharing.proofs.marking.mark.Statement.{statement}

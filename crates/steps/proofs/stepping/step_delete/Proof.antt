@@ -5,8 +5,8 @@ use native.Mathlib.Omega.{arith}
 use borrow.Author.Tests.{not-true, not-false}
 use Rattle.slots.specs.Segments.{segmentsOf}
 use Rattle.slots.specs.Shown.{Shows}
-use Rattle.forecast.specs.Held.{Tidy}
-use Rattle.forecast.specs.Held.{Roomy}
+use Rattle.forecast.specs.Tidy.{Tidy}
+use Rattle.forecast.specs.Tidy.{Roomy}
 use Rattle.steps.specs.Stepped.{Deleting}
 use Rattle.steps.proofs.FromValid.{shows-valid, some-valid, tidy-valid}
 use Rattle.steps.proofs.DeleteSteps.{delete-zero, delete-absent, deleting, delete-keeps, delete-under, delete-over}

@@ -3,7 +3,7 @@ use mathlib.Core.Logic.{⊎-elim}
 use native.Mathlib.Omega.{arith}
 use Rattle.slots.specs.Segments.{segmentsOf}
 use Rattle.slots.specs.Shown.{Shows}
-use Rattle.forecast.specs.Held.{Tidy, Roomy}
+use Rattle.forecast.specs.Tidy.{Tidy, Roomy}
 use Rattle.steps.specs.Stepped.{Inserting}
 use Rattle.steps.proofs.FromValid.{height-valid, shows-valid, some-valid, small-valid, tidy-valid}
 use Rattle.steps.proofs.InsertSteps.{insert-zero, insert-present, insert-full, insert-over, fresh-place, inserting}

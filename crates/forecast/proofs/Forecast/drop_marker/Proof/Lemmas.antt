@@ -12,7 +12,7 @@ use Rattle.forecast.specs.declared.Cell.{Cell}
 use Rattle.forecast.specs.declared.Forecast.{Forecast}
 use Rattle.forecast.specs.Cells.{zeroCell, usedCells, row, cellAt}
 use Rattle.forecast.specs.Steps.{dropped}
-use Rattle.forecast.specs.Held.{Tidy, Became}
+use Rattle.forecast.specs.Tidy.{Tidy, Became}
 use Rattle.forecast.proofs.Laws.{dropped-is, dropped-none}
 use Rattle.forecast.proofs.Rows.{closing, closing-from, closing-last}
 use Rattle.forecast.proofs.Stepping.{became, cells-used, markers-row, segments-row, counts-row, place-is}

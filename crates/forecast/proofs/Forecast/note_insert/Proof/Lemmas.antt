@@ -11,9 +11,9 @@ use lib.Seq.{length-take-le, getD-set-same, getD-set-other, set-set}
 use Rattle.lists.specs.Search.{placeBy}
 use Rattle.forecast.specs.declared.Cell.{Cell}
 use Rattle.forecast.specs.declared.Forecast.{Forecast}
-use Rattle.forecast.specs.Cells.{cell, zeroCell, counted, usedCells, row, cellAt}
+use Rattle.forecast.specs.Cells.{cell, zeroCell, withCount, usedCells, row, cellAt}
 use Rattle.forecast.specs.Steps.{raised, tailed, noted}
-use Rattle.forecast.specs.Held.{Tidy, Became, aheadRow}
+use Rattle.forecast.specs.Tidy.{Tidy, Became, aheadRow}
 use Rattle.forecast.proofs.Laws.{raised-head, raised-past, tailed-gone, tailed-less}
 use Rattle.forecast.proofs.Rows.{row-set, row-kept, row-less, row-more, row-ahead}
 use Rattle.forecast.proofs.Stepping.{became, cells-used, markers-row, segments-row, counts-row, count-is, place-is}
@@ -28,7 +28,7 @@ module _ (F : Forecast) (t : Tidy F) where
   -- ONE MORE for the cell at `at`
   module _ (at : ℕ) (h : at < F .used) where
     abbrev more : Cell
-    more = counted (getD us at zeroCell .count + 1) (getD us at zeroCell)
+    more = withCount (getD us at zeroCell .count + 1) (getD us at zeroCell)
 
     abbrev bumped : List Cell
     bumped = set us at more
@@ -54,7 +54,7 @@ module _ (F : Forecast) (t : Tidy F) where
     pub raised-first : at ≡ 0 → Became (raised at us) (made (F .markers) (F .segments) (set (F .counts) at (getD (F .counts) at 0 + 1)) (F .used))
     raised-first e =
         subst (λ (ds : List Cell). Became ds (made (F .markers) (F .segments) (set (F .counts) at (getD (F .counts) at 0 + 1)) (F .used)))
-        (subst (λ (k : ℕ). set us k (counted (getD us k zeroCell .count + 1) (getD us k zeroCell)) ≡ raised k us) (sym e) (sym (raised-head us)))
+        (subst (λ (k : ℕ). set us k (withCount (getD us k zeroCell .count + 1) (getD us k zeroCell)) ≡ raised k us) (sym e) (sym (raised-head us)))
         (became bumped _ fits (sym (length-set us at more ∙ cells-used F t)) markers-more segments-more counts-more)
 
     -- elsewhere it changes places with the one before
@@ -112,9 +112,9 @@ module _ (F : Forecast) (t : Tidy F) where
     pub lowered-less : 1 < getD (F .counts) tail 0 → Became (tailed us) (made (F .markers) (F .segments) (set (F .counts) tail (getD (F .counts) tail 0 - 1)) (F .used))
     lowered-less k =
         let r = t .room in
-        let less : Cell = counted (getD us tail zeroCell .count - 1) (getD us tail zeroCell) in
+        let less : Cell = withCount (getD us tail zeroCell .count - 1) (getD us tail zeroCell) in
         let q : tailed us ≡ set us tail less =
-        tailed-less us (rw (last, ← count-is F t tail) k) ∙ ap (λ (n : ℕ). set us n (counted (getD us n zeroCell .count - 1) (getD us n zeroCell))) last in
+        tailed-less us (rw (last, ← count-is F t tail) k) ∙ ap (λ (n : ℕ). set us n (withCount (getD us n zeroCell .count - 1) (getD us n zeroCell))) last in
         rw q
         (became (set us tail less) _ (simp length-set (omega (arith, cells-used F t))) (sym (length-set us tail less ∙ cells-used F t))
         (markers-row F t ∙ row-kept (λ c. c .marker) us tail less refl)

@@ -13,7 +13,7 @@ use Rattle.forecast.specs.declared.Cell.{Cell}
 use Rattle.forecast.specs.declared.Forecast.{Forecast}
 use Rattle.forecast.specs.Cells.{cell, zeroCell, usedCells, row}
 use Rattle.forecast.specs.Steps.{aimed, retargeted}
-use Rattle.forecast.specs.Held.{Tidy, Became, Marker, Live}
+use Rattle.forecast.specs.Tidy.{Tidy, Became, Marker, Live}
 use Rattle.forecast.proofs.Rows.{row-set, row-kept, row-at, row-long, row-drop}
 use Rattle.forecast.proofs.Stepping.{became, cells-used, markers-row, segments-row, counts-row, marker-is}
 

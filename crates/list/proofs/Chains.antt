@@ -7,7 +7,7 @@ use Rattle.rules.specs.Shares.{shares}
 use Rattle.rules.specs.Placing.{Answer}
 use Rattle.rules.specs.Looking.{Found}
 use Rattle.rules.specs.PlainSet as set
-use Rattle.rules.specs.Demand2.{Held, told, after, allTold, afterAll, made, ruledAll, emptyRoom, moves, allMoves, Stands}
+use Rattle.rules.specs.Demand2.{Held, told, after, allTold, afterAll, made, ruledAll, emptyRoom, moves, allMoves, IsRoom}
 use Rattle.rules.proofs.Demand2.Answered.{sequence-answered}
 use Rattle.rules.proofs.Demand2.Ruled.{sequence-ruled}
 use Rattle.list.specs.Chains.{Call, inserted, deleted, lookedUp, scanned, Chain, none, next, Chained}
@@ -59,7 +59,7 @@ chained h from to slots e r left m asks ts ms H c =
       told = s .told ∙ d .0;
       keys = ap (λ (G : Held). live (G .slots)) (s .left) ∙ d .1;
       moves = s .moves ∙ q .1;
-      stands = subst (Stands (shares h) (ruledAll (shares h) asks (emptyRoom h))) (sym (s .left)) (q .0);
+      is-room = subst (IsRoom (shares h) (ruledAll (shares h) asks (emptyRoom h))) (sym (s .left)) (q .0);
     }
   where
     begins : record { slots = left; forecast = r .forecast } ≡ made slots

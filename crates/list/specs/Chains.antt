@@ -7,7 +7,7 @@ use Rattle.slots.specs.Segments.{live}
 use Rattle.forecast.specs.declared.Forecast.{Forecast}
 use Rattle.rules.specs.Shares.{shares}
 use Rattle.rules.specs.PlainSet as set
-use Rattle.rules.specs.Demand2.{Held, ruledAll, allRuledMoves, emptyRoom, Stands}
+use Rattle.rules.specs.Demand2.{Held, ruledAll, allRuledMoves, emptyRoom, IsRoom}
 use Rattle.list.specs.declared.MakeReply.{MakeReply}
 use Rattle.list.specs.declared.LookupAnswer.{LookupAnswer}
 use Rattle.list.specs.declared.ScanAnswer.{ScanAnswer}
@@ -42,7 +42,7 @@ pub record Answered (h : ℕ) (asks : List set.Ask) (ts : List set.Told) (ms : L
   pub told : ts ≡ set.allTold (32 * 2 ^ h) (13 * 2 ^ h) asks []
   pub keys : live (H .slots) ≡ set.afterAll (32 * 2 ^ h) asks []
   pub moves : ms ≡ allRuledMoves (shares h) asks (emptyRoom h)
-  pub stands : Stands (shares h) (ruledAll (shares h) asks (emptyRoom h)) H
+  pub is-room : IsRoom (shares h) (ruledAll (shares h) asks (emptyRoom h)) H
 
 -- Any chain after any outcome of make, on an array of a permitted length.
 abbrev pub Chained : Type 0

@@ -117,7 +117,7 @@ RequestRuled = (q : Request) (slots : List ℕ) (F : Forecast) → Roomy F → c
     → AsRuled (request q slots F) (outcome (sharesOf slots) q (roomOf slots F))
 
 -- Slots and forecast that are the room R of the rules, and show it; what the next request answers and leaves is what the rules make of R.
-pub record Stands (S : Shares) (R : Room) (H : Held) : Type 0 where
+pub record IsRoom (S : Shares) (R : Room) (H : Held) : Type 0 where
   pub slots : H .slots ≡ render 0 (R .segments)
   pub forecast : H .forecast ≡ forecastOf (R .cells)
   pub shown : roomOf (H .slots) (H .forecast) ≡ R
@@ -127,5 +127,5 @@ pub record Stands (S : Shares) (R : Room) (H : Held) : Type 0 where
 -- the moves reported on the way.
 abbrev pub SequenceRuled : Type 0
 SequenceRuled = (h : ℕ) → 1 ≤ h → h ≤ 6 → (slots : List ℕ) → length slots ≡ 64 * 2 ^ h → (asks : List set.Ask)
-    → Stands (shares h) (ruledAll (shares h) asks (emptyRoom h)) (afterAll asks (made slots))
+    → IsRoom (shares h) (ruledAll (shares h) asks (emptyRoom h)) (afterAll asks (made slots))
     × (allMoves asks (made slots) ≡ allRuledMoves (shares h) asks (emptyRoom h))

@@ -28,14 +28,14 @@ LentInside = (q : Request) (slots : List ℕ) (F : Forecast) → request q slots
     → Limits (sharesOf slots) j (suc j) (count j t (segmentsOf (request q slots F .slots)))
 
 -- SECOND PART. What is asked: an insert or a delete, with any forecast lent with it; a lookup; a scan, with the output lent.
-pub data Ask : Type 0 where
-  Change : Request → Forecast → Ask
-  Lookup : ℕ → Ask
-  Scan : ℕ → List ℕ → Ask
+pub data LentAsk : Type 0 where
+  Change : Request → Forecast → LentAsk
+  Lookup : ℕ → LentAsk
+  Scan : ℕ → List ℕ → LentAsk
 
 -- The events of the accepted requests, in order. Refused ones, one whose forecast check refuses among them, count for nothing and leave
 -- the slots; so do lookups and scans.
-abbrev pub lentEvents : List Ask → List ℕ → List Event
+abbrev pub lentEvents : List LentAsk → List ℕ → List Event
 lentEvents [] slots = []
 lentEvents (Change q F ∷ asks) slots =
     let c : Called = request q slots F in
@@ -45,5 +45,5 @@ lentEvents (Lookup y ∷ asks) slots = lentEvents asks slots
 lentEvents (Scan a out ∷ asks) slots = lentEvents asks slots
 
 abbrev pub LentAgain : Type 0
-LentAgain = (slots : List ℕ) (asks : List Ask) (l s : ℕ) (e₀ : Event) (es : List Event) (e : Event)
+LentAgain = (slots : List ℕ) (asks : List LentAsk) (l s : ℕ) (e₀ : Event) (es : List Event) (e : Event)
     → SweptAgain (lentEvents asks slots) l s e₀ es e → Taken (sharesOf slots) l s (counting e₀ es e)

@@ -12,7 +12,7 @@ use Rattle.rules.specs.Placing.{Room, Outcome, outcome}
 use Rattle.rules.specs.Checks.{sharesOf}
 use Rattle.rules.specs.Calls.{roomOf, Called, request, changed, Made}
 use Rattle.rules.specs.PlainSet as set
-use Rattle.rules.specs.Demand2.{Held, after, afterAll, made, ruled, ruledMoves, ruledAll, allRuledMoves, emptyRoom, moves, allMoves, AsRuled, RequestRuled, Stands, SequenceRuled}
+use Rattle.rules.specs.Demand2.{Held, after, afterAll, made, ruled, ruledMoves, ruledAll, allRuledMoves, emptyRoom, moves, allMoves, AsRuled, RequestRuled, IsRoom, SequenceRuled}
 use Rattle.rules.proofs.Sharing.Table.{lawful}
 use Rattle.rules.proofs.Requests.StaysGood.{Good, good-next}
 use Rattle.rules.proofs.Requests.Checked.{checked, slots-shown, forecast-shown, room-render}
@@ -59,8 +59,8 @@ module _ (h : ℕ) (from : 1 ≤ h) (to : h ≤ 6) where
     good-ruled (set.Lookup y) = g
     good-ruled (set.Scan a out) = g
 
-    stands : Stands (shares h) R (heldOf R)
-    stands = record {
+    is-room : IsRoom (shares h) R (heldOf R)
+    is-room = record {
       slots = refl;
       forecast = refl;
       shown = room-render h from to R g;
@@ -84,7 +84,7 @@ module _ (h : ℕ) (from : 1 ≤ h) (to : h ≤ 6) where
 -- FROM MAKE
 pub sequence-ruled : SequenceRuled
 sequence-ruled h from to slots e asks = (
-  subst (Stands (shares h) (ruledAll (shares h) asks (emptyRoom h))) (sym there) (stands h from to (ruledAll (shares h) asks (emptyRoom h)) (good-all h from to asks (emptyRoom h) (good-empty h))),
+  subst (IsRoom (shares h) (ruledAll (shares h) asks (emptyRoom h))) (sym there) (is-room h from to (ruledAll (shares h) asks (emptyRoom h)) (good-all h from to asks (emptyRoom h) (good-empty h))),
   ap {B = List ℕ} (λ H. allMoves asks H) begins ∙ all-moves h from to asks (emptyRoom h) (good-empty h),
 )
   where

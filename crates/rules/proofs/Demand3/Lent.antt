@@ -19,7 +19,7 @@ use Rattle.rules.specs.Checks.{sharesOf, check}
 use Rattle.rules.specs.Calls.{roomOf, Called, request}
 use Rattle.rules.specs.Readings.{Proper}
 use Rattle.rules.specs.History.{Event, accepted, Turn, events}
-use Rattle.rules.specs.Demand3Lent.{eventOf, LentInside, Ask, Change, Lookup, Scan, lentEvents, LentAgain}
+use Rattle.rules.specs.Demand3Lent.{eventOf, LentInside, LentAsk, Change, Lookup, Scan, lentEvents, LentAgain}
 use Rattle.rules.proofs.Sharing.Table.{lawful}
 use Rattle.rules.proofs.Refusals.Refused.{request-refused}
 use Rattle.rules.proofs.Requests.Checked.{checked, room-render}
@@ -70,7 +70,7 @@ lent-inside q slots F e k v j t h w =
     (inside-kept (sharesOf slots) (lawful-lent q slots F e) q (roomOf slots F) (proper-lent q slots F e) (accepted-lent q slots F e) k v j t h w)
 
 -- SECOND PART. The accepted requests as turns
-abbrev turnsOf : List Ask → List ℕ → List Turn
+abbrev turnsOf : List LentAsk → List ℕ → List Turn
 turnsOf [] slots = []
 turnsOf (Change q F ∷ asks) slots =
     let rest : List Turn = turnsOf asks (request q slots F .slots) in
@@ -78,7 +78,7 @@ turnsOf (Change q F ∷ asks) slots =
 turnsOf (Lookup y ∷ asks) slots = turnsOf asks slots
 turnsOf (Scan a out ∷ asks) slots = turnsOf asks slots
 
-events-lent : (asks : List Ask) (slots : List ℕ) → events (sharesOf slots) (turnsOf asks slots) (segmentsOf slots) ≡ lentEvents asks slots
+events-lent : (asks : List LentAsk) (slots : List ℕ) → events (sharesOf slots) (turnsOf asks slots) (segmentsOf slots) ≡ lentEvents asks slots
 events-lent [] slots = refl
 events-lent (Lookup y ∷ asks) slots = events-lent asks slots
 events-lent (Scan a out ∷ asks) slots = events-lent asks slots
@@ -103,7 +103,7 @@ events-lent (Change q F ∷ asks) slots = go (eqb (request q slots F .answer .nu
 abbrev Shown : List ℕ → Type 0
 Shown slots = Lawful (sharesOf slots) × Proper (sharesOf slots) (segmentsOf slots)
 
-shown : (asks : List Ask) (slots : List ℕ) (e : Event) (es : List Event) → lentEvents asks slots ≡ e ∷ es → Shown slots
+shown : (asks : List LentAsk) (slots : List ℕ) (e : Event) (es : List Event) → lentEvents asks slots ≡ e ∷ es → Shown slots
 shown [] slots e es p = absurd (omega (arith, ap length p))
 shown (Lookup y ∷ asks) slots e es p = shown asks slots e es p
 shown (Scan a out ∷ asks) slots e es p = shown asks slots e es p

@@ -19,16 +19,16 @@ use Rattle.rules.specs.Placing.{sweep, chosen, settled, insertLevel, ins
 use Rattle.rules.specs.Checks.{checkList, check}
 use Rattle.rules.specs.Calls.{request}
 use Rattle.rules.specs.Sums.{upFrom, pair}
-use Rattle.rules.specs.Demand3Lent.{Ask, Change, Lookup, Scan, lentEvents}
+use Rattle.rules.specs.Demand3Lent.{LentAsk, Change, Lookup, Scan, lentEvents}
 use Rattle.rules.proofs.Demand3.AgainCases.{AgainCase, shrinks}
 
 -- lent an empty forecast
-abbrev empty-handed : Request → Ask
+abbrev empty-handed : Request → LentAsk
 empty-handed q = Change q (forecastOf [])
 
 -- h = 1, segments 1 to 7 and 101 to 127. The front's weight leaves 13 keys in segment 0; then other forecasts are lent, and the seventh
 -- delete sweeps again. A delete of a key that is gone, and one whose forecast names a key that is not there, are refused.
-abbrev asks : List Ask
+abbrev asks : List LentAsk
 asks =
     Change (Delete 1) (forecastOf (cell 0 0 7 ∷ []))
     ∷ empty-handed (Delete 1)

@@ -28,6 +28,10 @@ is-became cs h = record {
 pub became-is : (cs : List Cell) (F : Forecast) → Became cs F → F ≡ forecastOf cs
 became-is cs F b = b .tidy .rest ∙ ap forecastOf (b .is)
 
+-- a forecast by its rows and the number used
+abbrev pub made : List ℕ → List ℕ → List ℕ → ℕ → Forecast
+made ms ss ns u = record { markers = ms; segments = ss; counts = ns; used = u }
+
 -- a forecast whose rows hold cs, then zeros, and their number
 pub became : (cs : List Cell) (F : Forecast) → length cs ≤ 12 → F .used ≡ length cs
     → F .markers ≡ row (λ c. c .marker) cs → F .segments ≡ row (λ c. c .segment) cs → F .counts ≡ row (λ c. c .count) cs → Became cs F

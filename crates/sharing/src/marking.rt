@@ -70,8 +70,8 @@ pub fn mark(window: &[u64], m: usize, f: Forecast, at: &mut [usize], weights: &m
     while i < used {
         let cell = Cell {
             marker: f.markers[i],
-            segment: forecast::wide(f.segments[i]),
-            count: forecast::wide(f.counts[i]),
+            segment: forecast::row::wide(f.segments[i]),
+            count: forecast::row::wide(f.counts[i]),
         };
         n = mark_cell(window, m, cell, n, at, weights);
         i += 1;

@@ -48,7 +48,7 @@ pub fn look_over_both(list: &[u64], forecast: Forecast) -> Listing
         return listing;
     }
     let fault = forecast.fault(6 + listing.height, list);
-    if !forecast::is_sound(fault) {
+    if !forecast::checking::is_sound(fault) {
         return Listing {
             number: 4,
             height: 0,

@@ -7,7 +7,7 @@ use mathlib.Core.Logic.{⊎-elim}
 use Rattle.forecast.specs.Cells.{usedCells}
 use Rattle.forecast.specs.Steps.{tailed, noted}
 use native.Mathlib.Omega.{arith}
-use Rattle.forecast.proofs.Forecast.note_insert.Proof.Lemmas.{raised-first, raised-ahead, pushed, lowered-gone, lowered-less, is-raised, is-spent, is-new, is-full}
+use Rattle.forecast.proofs.Forecast.note_insert.Proof.Lemmas.{raised-first, raised-ahead, pushed, is-raised, is-spent, is-new, is-full}
 use borrow.Author.Needs.{needs}
 use Rattle.forecast.proofs.Forecast.note_insert.Statement.{statement}
 use Rattle.forecast.proofs.Forecast.note_insert.Tie as tie
@@ -88,41 +88,13 @@ spent j =
     (λ w. is-full (s .args .t1) (s .pre .0) _ _ _ _ (j .before .first-of .ensures) (w .0 .left) (w .1 .left))
     (j .if1 .came)
 
-sub-tail : tie.Need-sub-tail
-sub-tail c = pos c
-
-element-copy-out-count-2 : tie.Need-element-copy-out-count-2
-element-copy-out-count-2 c = search needs
-
-element-write-self-2 : tie.Need-element-write-self-2
-element-write-self-2 c = search needs
-
-element-write-self-3 : tie.Need-element-write-self-3
-element-write-self-3 c = search needs
-
-mul-self : tie.Need-mul-self
-mul-self c = search needs
-
-element-write-self-4 : tie.Need-element-write-self-4
-element-write-self-4 c = search needs
+lower-tail-requires : tie.Need-lower-tail-requires
+lower-tail-requires c κs =
+    let s = c .before .before .before .before .before in
+    (s .pre .0, pos c)
 
 returns-4 : tie.Need-returns-4
-returns-4 c =
-    let j = c .before .before in
-    let s = j .before .before .before .before .before in
-    rw (spent j) (lowered-gone (s .args .t1) (s .pre .0) (omega (arith, pos j)) (c .if5 .taken))
-
-sub-self : tie.Need-sub-self
-sub-self c = search needs
-
-element-write-self-5 : tie.Need-element-write-self-5
-element-write-self-5 c = search needs
-
-returns-5 : tie.Need-returns-5
-returns-5 c =
-    let j = c .before .before in
-    let s = j .before .before .before .before .before in
-    rw (spent j) (lowered-less (s .args .t1) (s .pre .0) (omega (arith, pos j)) (c .if5 .left))
+returns-4 c = rw (spent (c .before)) (c .lower-tail .ensures)
 
 pub note-insert-spec : {M : Type 1} → statement M
 note-insert-spec =
@@ -144,13 +116,5 @@ note-insert-spec =
     add-self-2
     put-first-requires
     returns-3
-    sub-tail
-    element-copy-out-count-2
-    element-write-self-2
-    element-write-self-3
-    mul-self
-    element-write-self-4
-    returns-4
-    sub-self
-    element-write-self-5
-    returns-5)
+    lower-tail-requires
+    returns-4)

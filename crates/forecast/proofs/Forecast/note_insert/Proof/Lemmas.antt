@@ -7,19 +7,16 @@ use native.Mathlib.Omega.{arith}
 use borrow.Author.Tests.{lt-ltb, le-ltb}
 use lib.Dec.{eqb}
 use lib.ListN.{length, take, getD, set, length-set}
-use lib.Seq.{length-take-le, getD-set-same, getD-set-other, set-set}
+use lib.Seq.{getD-set-same, getD-set-other, set-set}
 use Rattle.lists.specs.Search.{placeBy}
 use Rattle.forecast.specs.declared.Cell.{Cell}
 use Rattle.forecast.specs.declared.Forecast.{Forecast}
 use Rattle.forecast.specs.Cells.{cell, zeroCell, withCount, usedCells, row, cellAt}
 use Rattle.forecast.specs.Steps.{raised, tailed, noted}
 use Rattle.forecast.specs.Tidy.{Tidy, Became, aheadRow}
-use Rattle.forecast.proofs.Laws.{raised-head, raised-past, tailed-gone, tailed-less}
-use Rattle.forecast.proofs.Rows.{row-set, row-kept, row-less, row-more, row-ahead}
-use Rattle.forecast.proofs.Stepping.{became, cells-used, markers-row, segments-row, counts-row, count-is, place-is}
-
-abbrev pub made : List ℕ → List ℕ → List ℕ → ℕ → Forecast
-made ms ss ns u = record { markers = ms; segments = ss; counts = ns; used = u }
+use Rattle.forecast.proofs.Laws.{raised-head, raised-past}
+use Rattle.forecast.proofs.Rows.{row-set, row-kept, row-more, row-ahead}
+use Rattle.forecast.proofs.Stepping.{made, became, cells-used, markers-row, segments-row, counts-row, count-is, place-is}
 
 module _ (F : Forecast) (t : Tidy F) where
   abbrev us : List Cell
@@ -86,41 +83,6 @@ module _ (F : Forecast) (t : Tidy F) where
       (a ∙ ap (λ (l : List ℕ). x ∷ take 11 l) (markers-row F t) ∙ row-more (λ c. c .marker) us (cell x s 1) l)
       (b ∙ ap (λ (l : List ℕ). s ∷ take 11 l) (segments-row F t) ∙ row-more (λ c. c .segment) us (cell x s 1) l)
       (c ∙ ap (λ (l : List ℕ). 1 ∷ take 11 l) (counts-row F t) ∙ row-more (λ c. c .count) us (cell x s 1) l)
-
-  -- ONE LESS for the tail
-  module _ (h : 0 < F .used) where
-    abbrev tail : ℕ
-    tail = F .used - 1
-
-    last : length us - 1 ≡ tail
-    last = ap (λ (n : ℕ). n - 1) (cells-used F t)
-
-    -- which goes
-    pub lowered-gone : getD (F .counts) tail 0 ≤ 1 → Became (tailed us) (made (set (F .markers) tail 0) (set (F .segments) tail 0) (set (F .counts) tail 0) tail)
-    lowered-gone k =
-        let r = t .room in
-        let e : length us ≡ tail + 1 = omega (arith, cells-used F t) in
-        let q : tailed us ≡ take tail us = tailed-gone us (rw (last, ← count-is F t tail) k) ∙ ap (λ (n : ℕ). take n us) last in
-        let l : length (take tail us) ≡ tail = length-take-le tail us (omega arith) in
-        rw q
-        (became (take tail us) _ (omega arith) (sym l)
-        (ap (λ (l : List ℕ). set l tail 0) (markers-row F t) ∙ row-less (λ c. c .marker) us tail e (omega arith))
-        (ap (λ (l : List ℕ). set l tail 0) (segments-row F t) ∙ row-less (λ c. c .segment) us tail e (omega arith))
-        (ap (λ (l : List ℕ). set l tail 0) (counts-row F t) ∙ row-less (λ c. c .count) us tail e (omega arith)))
-
-    -- which stays
-    pub lowered-less : 1 < getD (F .counts) tail 0 → Became (tailed us) (made (F .markers) (F .segments) (set (F .counts) tail (getD (F .counts) tail 0 - 1)) (F .used))
-    lowered-less k =
-        let r = t .room in
-        let less : Cell = withCount (getD us tail zeroCell .count - 1) (getD us tail zeroCell) in
-        let q : tailed us ≡ set us tail less =
-        tailed-less us (rw (last, ← count-is F t tail) k) ∙ ap (λ (n : ℕ). set us n (withCount (getD us n zeroCell .count - 1) (getD us n zeroCell))) last in
-        rw q
-        (became (set us tail less) _ (simp length-set (omega (arith, cells-used F t))) (sym (length-set us tail less ∙ cells-used F t))
-        (markers-row F t ∙ row-kept (λ c. c .marker) us tail less refl)
-        (segments-row F t ∙ row-kept (λ c. c .segment) us tail less refl)
-        (ap (λ (n : ℕ). set (F .counts) tail (n - 1)) (count-is F t tail) ∙ ap (λ (l : List ℕ). set l tail (less .count)) (counts-row F t)
-        ∙ row-set (λ c. c .count) us tail less (omega (arith, cells-used F t))))
 
   -- THE CASES of noting x
   module _ (P x s at : ℕ) (e : at ≡ placeBy (λ m. eqb m x) (take (F .used) (F .markers))) where

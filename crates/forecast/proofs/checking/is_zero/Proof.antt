@@ -1,7 +1,7 @@
--- `forecast::is_zero` meets its contract.
+-- `forecast::checking::is_zero` meets its contract.
 use borrow.Author.Tests.{eq-eqb, ne-eqb}
-use Rattle.forecast.proofs.is_zero.Statement.{statement}
-use Rattle.forecast.proofs.is_zero.Tie as tie
+use Rattle.forecast.proofs.checking.is_zero.Statement.{statement}
+use Rattle.forecast.proofs.checking.is_zero.Tie as tie
 
 returns : tie.Need-returns
 returns c = rw (ne-eqb _ _ (c .if1 .taken))

@@ -1,12 +1,12 @@
--- `forecast::fault_at` meets its contract: each return is a case of `faultAt`.
+-- `forecast::checking::fault_at` meets its contract: each return is a case of `faultAt`.
 use mathlib.Core.Path.{sym, _∙_}
 use native.Mathlib.Omega.{arith}
 use borrow.Author.Needs.{needs}
 use borrow.Author.Tests.{lt-ltb, le-ltb, le-leb, lt-leb}
 use Rattle.forecast.specs.Faults.{faultAt}
 use Rattle.forecast.proofs.Checked.{repeated, not-repeated}
-use Rattle.forecast.proofs.fault_at.Statement.{statement}
-use Rattle.forecast.proofs.fault_at.Tie as tie
+use Rattle.forecast.proofs.checking.fault_at.Statement.{statement}
+use Rattle.forecast.proofs.checking.fault_at.Tie as tie
 
 is-zero-requires : tie.Need-is-zero-requires
 is-zero-requires c κs = search needs

@@ -1,4 +1,4 @@
--- `forecast::put_first8` meets its contract.
+-- `forecast::row::put_first8` meets its contract.
 use mathlib.Core.Path.{_≡_, ap}
 use lib.ListN.{length}
 use mathlib.Core.List.{List, _∷_}
@@ -6,8 +6,8 @@ use Prim.Native.Nat.{ℕ}
 use native.Mathlib.Omega.{arith}
 use Rattle.forecast.proofs.Rows.{take-firsts}
 use borrow.Author.Needs.{needs}
-use Rattle.forecast.proofs.put_first8.Statement.{statement}
-use Rattle.forecast.proofs.put_first8.Tie as tie
+use Rattle.forecast.proofs.row.put_first8.Statement.{statement}
+use Rattle.forecast.proofs.row.put_first8.Tie as tie
 
 array-read-t7 : tie.Need-array-read-t7
 array-read-t7 c = search needs

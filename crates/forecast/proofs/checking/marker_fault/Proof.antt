@@ -1,9 +1,9 @@
--- `forecast::marker_fault` meets its contract: each return is a case of `markerFault`.
+-- `forecast::checking::marker_fault` meets its contract: each return is a case of `markerFault`.
 use mathlib.Core.Path.{sym}
 use borrow.Author.Needs.{needs}
 use Rattle.forecast.proofs.Checked.{front-sound, front-misplaced, stands-sound, live-sound, live-misplaced, not-live}
-use Rattle.forecast.proofs.marker_fault.Statement.{statement}
-use Rattle.forecast.proofs.marker_fault.Tie as tie
+use Rattle.forecast.proofs.checking.marker_fault.Statement.{statement}
+use Rattle.forecast.proofs.checking.marker_fault.Tie as tie
 
 returns : tie.Need-returns
 returns c ss sh = sym (front-sound ss (c .before .before .before .before .before .args .cell) _ (c .before .before .if1 .taken) (c .if2 .taken))

@@ -1,4 +1,4 @@
--- `forecast::first_of` meets its contract: nothing found below i.
+-- `forecast::row::first_of` meets its contract: nothing found below i.
 use Prim.Native.Nat.{_≤_, _-_}
 use mathlib.Core.Path.{_≡_, _∙_, sym}
 use native.Mathlib.Omega.{arith}
@@ -7,8 +7,8 @@ use lib.Dec.{eqb}
 use lib.ListN.{take, length}
 use lib.Seq.{getD-take, length-take-le}
 use Rattle.lists.proofs.Searched.{Passed, passed-hit, passed-more, passed-all}
-use Rattle.forecast.proofs.first_of.Statement.{statement}
-use Rattle.forecast.proofs.first_of.Tie as tie
+use Rattle.forecast.proofs.row.first_of.Statement.{statement}
+use Rattle.forecast.proofs.row.first_of.Tie as tie
 
 abbrev Inv-loop : tie.InvT-loop
 Inv-loop markers n marker i₀ i = (i ≤ n) × Passed (λ m. eqb m marker) (take n markers) i

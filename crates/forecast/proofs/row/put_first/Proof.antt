@@ -1,4 +1,4 @@
--- `forecast::put_first` meets its contract: those from i on have moved already.
+-- `forecast::row::put_first` meets its contract: those from i on have moved already.
 use Prim.Native.Nat.{ℕ, _≤_, _<_, _+_, _-_}
 use mathlib.Core.Path.{_≡_, refl, sym, ap, _∙_, subst}
 use mathlib.Core.List.{List, [], _∷_, append-nil}
@@ -6,8 +6,8 @@ use lib.Seq.{take-all}
 use native.Mathlib.Omega.{arith}
 use lib.ListN.{length, take, getD, set, length-take, drop-of-length-le}
 use Rattle.forecast.proofs.Rows.{moving, moving-more}
-use Rattle.forecast.proofs.put_first.Statement.{statement}
-use Rattle.forecast.proofs.put_first.Tie as tie
+use Rattle.forecast.proofs.row.put_first.Statement.{statement}
+use Rattle.forecast.proofs.row.put_first.Tie as tie
 
 abbrev Inv-loop : tie.InvT-loop
 Inv-loop xs₀ v i₀ xs i = (i ≤ 11) × (xs ≡ moving 11 xs₀ i)

@@ -15,8 +15,8 @@ use Rattle.rules.specs.declared.Request.{Request}
 use Rattle.rules.specs.declared.Request.the-variants.{Insert, Delete}
 use Rattle.rules.specs.Shares.{shares}
 use Rattle.rules.specs.SharingOut.{leftShare, plan, shareOut}
-use Rattle.rules.specs.Placing.{Room, refusedBy, sweep, chosen, settled, insertLevel, insertKey, deleteLevel, deleteKey, outcome}
-use Rattle.rules.specs.Sums.{upFrom, room, empty, pair, last}
+use Rattle.rules.specs.Placing.{Room, sweep, chosen, settled, insertLevel, insertKey, deleteLevel, deleteKey, outcome}
+use Rattle.rules.specs.Sums.{upFrom, room, pair}
 use Rattle.rules.specs.History.{Event, inserts, deletes, Turn, events}
 use Rattle.rules.specs.Demand3.{SweptAgain, counting, Taken}
 
@@ -75,14 +75,10 @@ by-inserts = record {
   taken = inl (ltb→lt _ _ tt);
 }
 
--- The forecast changes hands: h = 2, inserts 1 to 65, the last of which sweeps level 1; then an empty forecast is lent, and inserts from 66 on
--- fill segment 1. The next sweeps level 2, and the window of level 1 inside it.
+-- The forecast changes hands: h = 2, a list as inserts 1 to 64 leave it. The 65th sweeps level 1; then an empty forecast is lent, and inserts
+-- from 66 on fill segment 1. The next sweeps level 2, and the window of level 1 inside it.
 abbrev risen : Room
 risen = room (upFrom 1 64 ∷ [] ∷ [] ∷ [] ∷ []) (map (λ x. cell x 0 1) (63 ∷ 61 ∷ 59 ∷ 57 ∷ 55 ∷ 53 ∷ 51 ∷ 49 ∷ []))
-
-risen-is : last 2 (map Insert (upFrom 1 64)) (refusedBy 0 empty) .room ≡ risen
-unfolding without predecessor segmentOf weight raised tailed noted dropped retargeted leftShare plan shareOut sweep chosen settled insertLevel insertKey deleteLevel deleteKey outcome
-risen-is = refl
 
 abbrev handed : List Turn
 handed = record { request = Insert 65; cells = risen .cells } ∷ map bare (map Insert (upFrom 66 48))

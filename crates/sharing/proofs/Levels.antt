@@ -1,17 +1,16 @@
 -- A window within its limits, from its level to its halves: they are within theirs, and their plans are its plan.
 use mathlib.Core.Path.{_≡_, sym, ap, ap₂, _∙_}
 use mathlib.Core.List.{List, [], _∷_, _++_}
-use Prim.Native.Nat.{ℕ, zero, suc, _+_, _-_, _^_, _≤_}
+use Prim.Native.Nat.{ℕ, zero, suc, _+_, _-_, _/_, _^_, _≤_}
 use native.Mathlib.Nat.{pow-succ', pow-le-pow-right}
 use native.Mathlib.Omega.{arith}
 use lib.Dec.{lit≤}
 use lib.ListN.{length, take, drop, set}
 use borrow.Rule.Slice.PartMut.{putMid}
 use Rattle.slots.proofs.Windows.{double, pow-pos}
-use Rattle.rules.specs.Shares.{Shares, shares}
+use Rattle.rules.specs.Shares.{Shares}
 use Rattle.rules.specs.SharingOut.{leftShare, plan}
 use Rattle.rules.specs.Readings.{Limits}
-use Rattle.rules.proofs.Sharing.Table.{lawful}
 use Rattle.rules.proofs.Sharing.SharingOut.{inner}
 use Rattle.sharing.specs.Plans.{Splits, Planned}
 use Rattle.sharing.proofs.Weighing.{first-part, other-part, length-stretch}
@@ -20,20 +19,22 @@ use Rattle.sharing.proofs.Lent.{halves, set-only}
 
 -- WITHIN LIMITS
 -- What is known of a window of level l above segments, with half the segments in each half.
-pub record Down (h l n m half : ℕ) : Type 0 where
+pub record Down (S : Shares) (l n m half : ℕ) : Type 0 where
   pub whole : n ≡ half + half
-  pub splits : Splits half (shares h .low l) (shares h .high l) m
-  pub left : (k i : ℕ) → k ≡ half → Ranged half (shares h .low l) (shares h .high l) m i → Planned h (l - 1) k i
-  pub right : (k i : ℕ) → k ≡ half → Ranged half (shares h .low l) (shares h .high l) m i → Planned h (l - 1) k (m - i)
+  pub power : half ≡ 2 ^ (l - 1)
+  pub splits : Splits half (S .low l) (S .high l) m
+  pub left : (k i : ℕ) → k ≡ half → Ranged half (S .low l) (S .high l) m i → Planned S (l - 1) k i
+  pub right : (k i : ℕ) → k ≡ half → Ranged half (S .low l) (S .high l) m i → Planned S (l - 1) k (m - i)
 
-pub down : (h l n m half : ℕ) → Planned h l n m → 1 ≤ l → half ≡ 2 ^ (l - 1) → Down h l n m half
-down h zero n m half p q g = absurd (omega arith)
-down h (suc l) n m half p q g = record {
+pub down : (S : Shares) (l n m : ℕ) → Planned S l n m → 1 ≤ l → Down S l n m (n / 2)
+down S zero n m p q = absurd (omega arith)
+down S (suc l) n m p q = record {
   whole = omega (arith, t, p .segments, pow-succ' 2 l);
+  power = t ∙ ap (λ (k : ℕ). 2 ^ k) (sym e);
   splits = rw t (record {
     some = pow-pos l;
-    small = pow-le-pow-right {n = 2} (lit≤ tt) {i = l} {j = 5} (omega (arith, p .level, p .to));
-    gap = lawful h (p .from) (p .to) .gaps l (p .level);
+    small = pow-le-pow-right {n = 2} (lit≤ tt) {i = l} {j = 5} (omega (arith, p .level, p .height));
+    gap = p .lawful .gaps l (p .level);
     least = rw double at (p .limits .0);
     most = rw double at (p .limits .1);
   });
@@ -44,16 +45,16 @@ down h (suc l) n m half p q g = record {
     e : suc l - 1 ≡ l
     e = omega arith
 
-    t : half ≡ 2 ^ l
-    t = g ∙ ap (λ (k : ℕ). 2 ^ k) e
+    t : n / 2 ≡ 2 ^ l
+    t = omega (arith, p .segments, pow-succ' 2 l)
 
-    planned : (k i : ℕ) → k ≡ half → Limits (shares h) l (suc l) i → Planned h (suc l - 1) k i
+    planned : (k i : ℕ) → k ≡ n / 2 → Limits S l (suc l) i → Planned S (suc l - 1) k i
     planned k i f b = rw e (record {
-      from = p .from;
-      to = p .to;
+      lawful = p .lawful;
+      height = p .height;
       level = omega (arith, p .level);
       segments = f ∙ t;
-      limits = inner (shares h) (lawful h (p .from) (p .to)) l i (p .level) b;
+      limits = inner S (p .lawful) l i (p .level) b;
     })
 
 -- PLANS

@@ -1,6 +1,10 @@
 pub mod Rows
 pub mod Products
+pub mod NextMark
 pub mod Weighing
+pub mod Valley
+pub mod Looks
+pub mod Parts
 pub mod Scanning
 pub mod Splitting
 pub mod Lent

@@ -1,14 +1,15 @@
 -- The constant table's rows are the rules' shares: one computed test over both.
 use mathlib.Core.Path.{_≡_}
 use mathlib.Core.Bool.{Bool, _&&_}
-use mathlib.Core.List.{List, _++_, map}
-use Prim.Native.Nat.{ℕ, zero, suc, _≤_, _<_}
+use mathlib.Core.List.{List, [], _∷_, _++_, map}
+use Prim.Native.Nat.{ℕ, zero, suc, _-_, _≤_, _<_}
 use native.Mathlib.Omega.{arith}
 use lib.Dec.{T, leb, eqb, eqb→eq, leb→le}
 use Rattle.lists.proofs.Tests.{and-left, and-right}
-use lib.ListN.{take, replicate}
+use lib.ListN.{length, take, replicate, getD, length-take, length-append}
 use Rattle.rules.specs.Shares.{shares, rowAt, highRows, lowRows}
 use Rattle.rules.proofs.Sharing.Table.{at}
+use Rattle.sharing.specs.Plans.{Row}
 
 -- the constants' rows: those of the rules, filled up with 0
 abbrev wide : List (List ℕ) → List (List ℕ)
@@ -50,3 +51,13 @@ pub low-row : (h l : ℕ) → 1 ≤ h → h ≤ 6 → l ≤ h → (rowAt lows h 
 low-row zero l from to within = absurd (omega arith)
 low-row (suc h) l from to within =
     read lows (λ h l. shares h .low l) 13 (suc h) l (and-right (rightHigh (suc h) l) (rightLow (suc h) l) (tested h l to within))
+
+-- each row is as wide as the constants, so it has an entry for each level
+wide-long : (rows : List (List ℕ)) (k : ℕ) → k < length rows → length (getD (wide rows) k []) ≡ 7
+wide-long [] k h = absurd (omega arith)
+wide-long (r ∷ rows) zero h = simp (length-take, length-append) (omega arith)
+wide-long (r ∷ rows) (suc k) h = wide-long rows k (omega arith)
+
+pub row-of : (rows : List (List ℕ)) (f : ℕ → ℕ) (h : ℕ) → length rows ≡ 6 → 1 ≤ h → h ≤ 6 → ((l : ℕ) → l ≤ h → rowAt (wide rows) h l ≡ f l)
+    → Row h f (getD (wide rows) (h - 1) [])
+row-of rows f h six from to is = record { long = omega (arith, wide-long rows (h - 1) (omega arith)); is = is }

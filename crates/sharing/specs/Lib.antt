@@ -2,5 +2,5 @@ pub mod Marks
 pub mod Plans
 pub mod Climbs
 pub mod Tries
-pub mod Passing
+pub mod Parts
 pub mod Steps

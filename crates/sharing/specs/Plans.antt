@@ -1,8 +1,20 @@
--- What a split and a plan ask for: numbers within limits.
+-- What a split and a plan ask for: rows of shares, and numbers within limits.
 use Prim.Native.Nat.{ℕ, _*_, _^_, _≤_, _<_}
 use mathlib.Core.Path.{_≡_}
-use Rattle.rules.specs.Shares.{shares}
+use mathlib.Core.List.{List}
+use lib.ListN.{length, getD}
+use Rattle.rules.specs.Shares.{Shares, Lawful}
 use Rattle.rules.specs.Readings.{Limits}
+
+-- A row has a share for each level up to the whole array's.
+pub record Row (height : ℕ) (share : ℕ → ℕ) (row : List ℕ) : Type 0 where
+  pub long : height < length row
+  pub is : (l : ℕ) → l ≤ height → getD row l 0 ≡ share l
+
+-- Rows of low and high shares.
+pub record Rows (S : Shares) (lows highs : List ℕ) : Type 0 where
+  pub low : Row (S .height) (S .low) lows
+  pub high : Row (S .height) (S .high) highs
 
 -- A window whose halves have `half` segments each, with m keys, is within its limits, and its high leaves a gap.
 pub record Splits (half low high m : ℕ) : Type 0 where
@@ -12,10 +24,10 @@ pub record Splits (half low high m : ℕ) : Type 0 where
   pub least : 2 * (half * low) ≤ m
   pub most : m ≤ 2 * (half * high)
 
--- A window of level l of a list of height h, with n segments and m keys, is within its limits.
-pub record Planned (h l n m : ℕ) : Type 0 where
-  pub from : 1 ≤ h
-  pub to : h ≤ 6
-  pub level : l ≤ h
+-- A window of level l, with n segments and m keys, of a list with these shares is within its limits.
+pub record Planned (S : Shares) (l n m : ℕ) : Type 0 where
+  pub lawful : Lawful S
+  pub height : S .height ≤ 6
+  pub level : l ≤ S .height
   pub segments : n ≡ 2 ^ l
-  pub limits : Limits (shares h) l l m
+  pub limits : Limits S l l m

@@ -1,42 +1,15 @@
-// What a stretch of places weighs, by the marks, and the marks passed one after the other.
+// The marks passed one after the other, and how far a stretch without a mark reaches.
 ghost use mathlib.Core.Path.{_≡_};
 ghost use Prim.Native.Nat.{ℕ, _+_, _-_, _≤_, _<_, min};
 ghost use mathlib.Core.List.{List};
-ghost use lib.Dec.{leb};
-ghost use lib.ListN.{length, take, drop, getD};
-ghost use Rattle.lists.specs.Lists.{total};
+ghost use lib.Dec.{leb, ltb};
+ghost use lib.ListN.{length, take, getD};
+ghost use Rattle.lists.specs.Choice.{if_then_else_};
 ghost use Rattle.lists.specs.Search.{placeBy};
-ghost use Rattle.sharing.specs.Marks.{Marked};
-ghost use Rattle.sharing.specs.Passing.{Fit, Passes};
+ghost use Rattle.sharing.specs.Parts.{PartOf, PassedTo};
+use crate::Part;
 use crate::Passed;
 use crate::trying;
-
-// A mark's weight. No weight is above 12: a larger one counts as 12.
-fn weight_at(weights: &[usize], k: usize) -> usize
-    requires { ⌜ k < length (now weights) ⌝ }
-    ensures { λ r. ⌜ r ≡ min (getD (now (weights .entry)) k 0) 12 ⌝ }
-{
-    trying::smaller(weights[k], 12)
-}
-
-// What the places from `from` up to `to` weigh.
-pub fn weight_between(at: &[usize], weights: &[usize], from: usize, to: usize) -> usize
-    requires { ⌜ (length (now at) ≤ 12) × (length (now weights) ≡ length (now at)) × (from ≤ to) ⌝ }
-    ensures range { λ r. ⌜ r ≤ 144 ⌝ }
-    ensures weight { λ r. ⌜ ((ws : List ℕ) → Marked ws (now (at .entry)) (now (weights .entry)) → r ≡ total (take (to - from) (drop from ws))) ⌝ }
-{
-    let mut sum = 0;
-    let mut k = 0;
-    while k < at.len() {
-        if from <= at[k] {
-            if at[k] < to {
-                sum += weight_at(weights, k);
-            }
-        }
-        k += 1;
-    }
-    sum
-}
 
 // The first of the first `n` marks that stands at a place or past it, or `n`.
 pub fn mark_from(at: &[usize], n: usize, place: usize) -> usize
@@ -54,20 +27,47 @@ pub fn mark_from(at: &[usize], n: usize, place: usize) -> usize
     k
 }
 
-// One place passed: the next mark's weight goes left where the mark stands there.
-pub fn pass(at: &[usize], weights: &[usize], p: Passed, place: usize) -> Passed
-    requires { ⌜ (length (now at) ≤ 12) × (length (now weights) ≡ length (now at)) × Fit p (length (now at)) ⌝ }
-    ensures range { λ r. ⌜ Fit r (length (now (at .entry))) ⌝ }
-    ensures weight { λ r. ⌜ ((ws : List ℕ) → Marked ws (now (at .entry)) (now (weights .entry)) → p .next ≡ placeBy (leb place) (now (at .entry)) → Passes ws (now (at .entry)) place p r) ⌝ }
+// The next mark passed: its weight goes left.
+pub fn pass_one(weights: &[usize], p: Passed) -> Passed
+    requires { ⌜ (p .next < length (now weights)) × (p .left ≤ 300) × (getD (now weights) (p .next) 0 ≤ 12) × (p .next ≤ 12) ⌝ }
+    ensures { λ r. ⌜ (r .next ≡ p .next + 1) × (r .left ≡ p .left + getD (now (weights .entry)) (p .next) 0) ⌝ }
 {
-    let next = p.next;
-    if next < at.len() {
-        if at[next] == place {
-            return Passed {
-                next: next + 1,
-                left: p.left + weight_at(weights, next),
-            };
+    let k = p.next;
+    Passed {
+        next: k + 1,
+        left: p.left + weights[k],
+    }
+}
+
+// The marks on the first `i` keys of a part passed.
+pub fn pass(at: &[usize], weights: &[usize], part: Part, i: usize) -> Passed
+    requires { ⌜ ((ws : List ℕ) × PartOf ws (now at) (now weights) part) ⌝ }
+    requires { ⌜ i ≤ part .keys ⌝ }
+    ensures { λ r. ⌜ ((ws : List ℕ) → PartOf ws (now (at .entry)) (now (weights .entry)) part → PassedTo ws (now (at .entry)) part i r) ⌝ }
+{
+    let to = part.to;
+    let place = part.place + i;
+    let mut p = Passed {
+        next: part.from,
+        left: part.front,
+    };
+    while p.next < to {
+        let k = p.next;
+        if place <= at[k] {
+            return p;
         }
+        p = pass_one(weights, p);
     }
     p
+}
+
+// How far the numbers of keys go on before the next mark, at most to `last`: a mark weighs on the left once its key is taken.
+pub fn reach(at: &[usize], part: Part, next: usize, last: usize) -> usize
+    requires { ⌜ (next < part .to → (next < length (now at)) × (part .place ≤ getD (now at) next 0)) ⌝ }
+    ensures { λ r. ⌜ r ≡ (if ltb next (part .to) then min last (getD (now (at .entry)) next 0 - part .place) else last) ⌝ }
+{
+    if next < part.to {
+        return trying::smaller(last, at[next] - part.place);
+    }
+    last
 }

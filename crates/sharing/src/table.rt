@@ -2,6 +2,7 @@
 ghost use mathlib.Core.Path.{_≡_};
 ghost use Prim.Native.Nat.{_≤_, _*_, _^_};
 ghost use Rattle.rules.specs.Shares.{shares};
+ghost use Rattle.sharing.specs.Plans.{Row};
 
 const HIGH: [[usize; 7]; 6] = [
     [64, 32, 0, 0, 0, 0, 0],
@@ -33,6 +34,21 @@ pub fn low(h: usize, l: usize) -> usize
     ensures { λ r. ⌜ (r ≡ shares h .low l) × (r ≤ 13) ⌝ }
 {
     LOW[h - 1][l]
+}
+
+// The rows of a height, for what reads many shares.
+pub fn highs(h: usize) -> [usize; 7]
+    requires { ⌜ (1 ≤ h) × (h ≤ 6) ⌝ }
+    ensures { λ r. ⌜ Row h (shares h .high) r ⌝ }
+{
+    HIGH[h - 1]
+}
+
+pub fn lows(h: usize) -> [usize; 7]
+    requires { ⌜ (1 ≤ h) × (h ≤ 6) ⌝ }
+    ensures { λ r. ⌜ Row h (shares h .low) r ⌝ }
+{
+    LOW[h - 1]
 }
 
 // 2 to the power of a level.

@@ -14,70 +14,66 @@ use Rattle.slots.specs.Windows.{window}
 use Rattle.slots.proofs.Windows.{window-zero}
 use Rattle.forecast.specs.declared.Forecast.{Forecast}
 use Rattle.forecast.specs.Cells.{usedCells, weight}
-use Rattle.rules.specs.Shares.{shares}
+use Rattle.rules.specs.Shares.{Shares, Lawful}
 use Rattle.rules.specs.SharingOut.{plan, shareOut}
 use Rattle.rules.specs.Readings.{Limits}
-use Rattle.rules.proofs.Sharing.Table.{lawful, ends}
 use Rattle.rules.proofs.Sharing.SharingOut.{length-plan, total-plan, inside}
 use Rattle.sharing.specs.Plans.{Planned}
-use Rattle.sharing.proofs.Rows.{high-row}
-use Rattle.steps.specs.Sweeps.{shared}
 
-module _ (h l n m : ℕ) (p : Planned h l n m) where
+-- no share is above what a segment has slots
+high-fits : (S : Shares) → Lawful S → (l : ℕ) → l ≤ S .height → S .high l ≤ 64
+high-fits S L zero h = L .fits
+high-fits S L (suc l) h = omega (arith, L .gaps l h)
+
+module _ (S : Shares) (l n m : ℕ) (p : Planned S l n m) where
   -- a window within its limits has room for its keys, and they are few
   pub room : m ≤ 64 * 2 ^ l
-  room =
-      let r = high-row h l (p .from) (p .to) (p .level) in
-      let high : shares h .high l ≤ 64 = omega (arith, r) in
-      omega (arith, le-trans (p .limits .1) (mul-le-mul-left (2 ^ l) high))
-
-  pub low-level : l ≤ 6
-  low-level = omega (arith, p .level, p .to)
+  room = omega (arith, le-trans (p .limits .1) (mul-le-mul-left (2 ^ l) (high-fits S (p .lawful) l (p .level))))
 
   pub few-segments : 2 ^ l ≤ 64
-  few-segments = pow-le-pow-right {n = 2} (lit≤ tt) {i = l} {j = 6} low-level
+  few-segments = pow-le-pow-right {n = 2} (lit≤ tt) {i = l} {j = 6} (omega (arith, p .level, p .height))
 
 -- no segment gets more than it has slots
-pub plan-fits : (h l n f : ℕ) (ws : List ℕ) → Planned h l n (length ws) → (k : ℕ) → getD (plan (shares h) l f ws) k 0 ≤ 64
+pub plan-fits : (S : Shares) (l n f : ℕ) (ws : List ℕ) → Planned S l n (length ws) → (k : ℕ) → getD (plan S l f ws) k 0 ≤ 64
 unfolding plan
-plan-fits h zero n f ws p zero = omega (arith, rw (pow-zero 2) at (p .limits .1), ends h (p .from) (p .to) .0)
-plan-fits h zero n f ws p (suc k) = omega arith
-plan-fits h (suc l) n f ws p k = elim (decLt k (length ns)) [ yes i ↦ inner i | no o ↦ omega (arith, List·getD-eq-default ns 0 (outer o)) ]
+plan-fits S zero n f ws p zero = omega (arith, rw (pow-zero 2) at (p .limits .1), p .lawful .fits)
+plan-fits S zero n f ws p (suc k) = omega arith
+plan-fits S (suc l) n f ws p k = elim (decLt k (length ns)) [ yes i ↦ inner i | no o ↦ omega (arith, List·getD-eq-default ns 0 (outer o)) ]
   where
     ns : List ℕ
-    ns = plan (shares h) (suc l) f ws
+    ns = plan S (suc l) f ws
 
     outer : (k < length ns → ⊥) → length ns ≤ k
     outer o = omega arith
 
     inner : k < length ns → getD ns k 0 ≤ 64
     inner i =
-        let b : Limits (shares h) 0 1 (total (window 0 k ns)) =
-        inside (shares h) (lawful h (p .from) (p .to)) (suc l) f ws (p .level) (p .limits) 0 k (omega arith) (omega (arith, length-plan (shares h) (suc l) f ws)) in
-        omega (arith, rw (pow-zero 2) at (b .1), ap total (window-zero k ns 0 i), lawful h (p .from) (p .to) .gaps 0 (omega (arith, p .level)))
+        let b : Limits S 0 1 (total (window 0 k ns)) =
+        inside S (p .lawful) (suc l) f ws (p .level) (p .limits) 0 k (omega arith) (omega (arith, length-plan S (suc l) f ws)) in
+        omega (arith, rw (pow-zero 2) at (b .1), ap total (window-zero k ns 0 i), p .lawful .gaps 0 (omega (arith, p .level)))
 
 -- THE COUNTS of a window's first m slots, as they are planned and lent
-module _ (h l n f m : ℕ) (F : Forecast) (window lent : List ℕ) (p : Planned h l n m) (e : m ≤ length window) (q : lent ≡ plan (shares h) l f (take m (drop 0 (map (weight (usedCells F)) (take m window))))) where
+module _ (S : Shares) (l n f m : ℕ) (F : Forecast) (window lent : List ℕ) (p : Planned S l n m) (e : m ≤ length window) (q : lent ≡ plan S l f (take m (drop 0 (map (weight (usedCells F)) (take m window))))) where
   abbrev ws : List ℕ
   ws = map (weight (usedCells F)) (take m window)
 
   long : length ws ≡ m
   long = length-map (take m window) (weight (usedCells F)) ∙ length-take-le m window e
 
-  is-plan : lent ≡ plan (shares h) l f ws
-  is-plan = q ∙ ap (plan (shares h) l f) (take-all m ws (omega (arith, long)))
+  is-plan : lent ≡ plan S l f ws
+  is-plan = q ∙ ap (plan S l f) (take-all m ws (omega (arith, long)))
 
   -- one for each segment, none above 64, and m in all
   pub one-each : length lent ≡ 2 ^ l
-  one-each = ap length is-plan ∙ length-plan (shares h) l f ws
+  one-each = ap length is-plan ∙ length-plan S l f ws
 
   pub lent-fits : (k : ℕ) → getD lent k 0 ≤ 64
-  lent-fits k = rw is-plan (plan-fits h l n f ws (rw long p) k)
+  lent-fits k = rw is-plan (plan-fits S l n f ws (rw long p) k)
 
   pub lent-total : total lent ≡ m
-  lent-total = ap total is-plan ∙ total-plan (shares h) l f ws ∙ long
+  lent-total = ap total is-plan ∙ total-plan S l f ws ∙ long
 
   -- the keys dealt by them are the window shared out
-  pub dealt : (last : List ℕ) → last ≡ render 0 (deal lent (take m window)) → last ≡ shared h l F f (take m window)
+  pub dealt : (last : List ℕ) → last ≡ render 0 (deal lent (take m window)) → last ≡ render 0 (shareOut S (weight (usedCells F)) f l (take m window))
   unfolding shareOut
   dealt last r = r ∙ ap (λ (ns : List ℕ). render 0 (deal ns (take m window))) is-plan

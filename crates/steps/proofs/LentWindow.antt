@@ -18,6 +18,7 @@ use Rattle.slots.proofs.Render.{length-render, segments-render}
 use Rattle.slots.proofs.Carried.{window-fits, window-lent, window-put}
 use Rattle.rules.specs.Shares.{shares}
 use Rattle.rules.specs.Readings.{Limits}
+use Rattle.rules.proofs.Sharing.Table.{lawful}
 use Rattle.rules.proofs.Sweeping.SweptWindow.{keys-window}
 use Rattle.steps.specs.Sweeps.{Windowed}
 
@@ -95,5 +96,6 @@ module _ (ss : Segments) (slots : List ℕ) (sh : Shows ss slots) where
         lent-windowed m p q k = record {
           shows = lent-shows;
           counted = lent-counts ∙ right ∙ ap (map length) (sym lent-segments);
-          planned = record { from = p; to = q; level = low; segments = ap length lent-counts ∙ counts-long; limits = k };
+          height = p;
+          planned = record { lawful = lawful h p q; height = q; level = low; segments = ap length lent-counts ∙ counts-long; limits = k };
         }

@@ -1,5 +1,5 @@
 -- What the sweeps inside insert and delete ask for and leave.
-use Prim.Native.Nat.{ℕ, _*_, _^_}
+use Prim.Native.Nat.{ℕ, _*_, _^_, _≤_}
 use mathlib.Core.Path.{_≡_}
 use mathlib.Core.List.{List, map}
 use lib.ListN.{length, take}
@@ -24,12 +24,14 @@ shared h l F f ks = render 0 (shareOut (shares h) (weight (usedCells F)) f l ks)
 
 -- The first m slots of a window of level l are its keys, rising, and are within its limits.
 pub record Packs (h l m : ℕ) (window : List ℕ) : Type 0 where
+  pub height : 1 ≤ h
   pub size : length window ≡ 64 * 2 ^ l
-  pub planned : Planned h l (2 ^ l) m
+  pub planned : Planned (shares h) l (2 ^ l) m
   pub rising : Rising (take m window)
 
 -- A window of level l shows its segments, whose counts are these, and with m keys it is within its limits.
 pub record Windowed (h l m : ℕ) (counts window : List ℕ) : Type 0 where
   pub shows : Shows (segmentsOf window) window
   pub counted : counts ≡ map length (segmentsOf window)
-  pub planned : Planned h l (length counts) m
+  pub height : 1 ≤ h
+  pub planned : Planned (shares h) l (length counts) m

@@ -21,14 +21,16 @@ fn deal_out(window: &mut [u64], m: usize, forecast: Forecast, front: usize, h: u
     let mut weights = [0; 12];
     let mut counts = [0; 64];
     let r = sharing::marking::mark(window, m, forecast, &mut at, &mut weights);
+    let part = sharing::parting::whole(&weights[..r], m, front);
+    let lows = sharing::table::lows(h);
+    let highs = sharing::table::highs(h);
     let n = sharing::table::power(level);
     sharing::planning::plan_window(
         &at[..r],
         &weights[..r],
-        0,
-        m,
-        front,
-        h,
+        part,
+        &lows[..7],
+        &highs[..7],
         level,
         &mut counts[..n],
     );

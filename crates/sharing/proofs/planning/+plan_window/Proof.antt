@@ -1,16 +1,18 @@
 -- `sharing::planning::plan_window` meets its contract, by recursion on the level: the halves' counts are planned in the two lent parts.
-use mathlib.Core.Path.{_≡_, sym, ap, _∙_}
+use mathlib.Core.Path.{_≡_, sym, ap, subst, _∙_}
 use mathlib.Core.List.{List}
-use Prim.Native.Nat.{ℕ, suc, _+_, _-_, _≤_, _<_}
+use Prim.Native.Nat.{ℕ, suc, _-_, _/_, _≤_, _<_}
 use native.Mathlib.Nat.{pos-of-ne-zero}
 use native.Mathlib.Omega.{arith}
-use lib.ListN.{length, take, drop, length-set, length-take}
+use lib.ListN.{length, take, getD, length-set, length-take}
 use borrow.Author.Needs.{needs}
 use Rattle.slots.proofs.Windows.{pow-pos}
-use Rattle.rules.specs.Shares.{shares}
-use Rattle.rules.specs.SharingOut.{leftShare}
-use Rattle.sharing.specs.Marks.{Marked}
-use Rattle.sharing.specs.Plans.{Planned}
+use Rattle.rules.specs.Shares.{Shares}
+use Rattle.rules.specs.SharingOut.{leftShare, plan}
+use Rattle.sharing.specs.declared.Part.{Part}
+use Rattle.sharing.specs.Parts.{weightsIn, PartOf, leftOf, rightOf}
+use Rattle.sharing.specs.Plans.{Rows, Planned}
+use Rattle.sharing.proofs.Parts.{left-small, left-part, right-part}
 use Rattle.sharing.proofs.Splitting.{Ranged}
 use Rattle.sharing.proofs.Levels.{Down, down, plan-one, plan-two}
 use Rattle.sharing.proofs.Lent.{second-in, second-length, halves-length}
@@ -19,199 +21,233 @@ use borrow.Fn.PlainCycle.{Measures, is, falls, and}
 use Rattle.sharing.proofs.planning.plan_window.Reads as plan-window
 use Rattle.sharing.proofs.planning.plan_window.Kinds as plan-window-kinds
 use Rattle.sharing.proofs.planning.+plan_window.Lts-plan_window as plan-window-lts
+use Rattle.sharing.proofs.parting.left_of.Reads as left-of-reads
+use Rattle.sharing.proofs.parting.right_of.Reads as right-of-reads
+use Rattle.sharing.proofs.passing.pass.Reads as pass-reads
 use Rattle.sharing.proofs.planning.split.Reads as split-reads
-use Rattle.sharing.proofs.table.high.Reads as high-reads
-use Rattle.sharing.proofs.table.low.Reads as low-reads
-use Rattle.sharing.proofs.table.power.Reads as power-reads
 use Rattle.sharing.proofs.planning.+plan_window.{statement}
 use Rattle.sharing.proofs.planning.+plan_window.Tie.{close}
 
-abbrev μ-plan-window : Measures 3 plan-window-kinds.ps ℕ
-μ-plan-window κs a = a .1 .1 .1 .1 .1 .1 .0
+abbrev μ-plan-window : Measures 5 plan-window-kinds.ps ℕ
+μ-plan-window κs a = a .1 .1 .1 .1 .1 .0
 
-abbrev plan-window-at : ℕ → In 3 plan-window-kinds.ps
+abbrev plan-window-at : ℕ → In 5 plan-window-kinds.ps
 plan-window-at t =
-    and 3 plan-window-kinds.ps (is 3 plan-window-kinds.ps μ-plan-window t) plan-window.Pre
+    and 5 plan-window-kinds.ps (is 5 plan-window-kinds.ps μ-plan-window t) plan-window.Pre
 
-abbrev plan-window-below : ℕ → In 3 plan-window-kinds.ps
+abbrev plan-window-below : ℕ → In 5 plan-window-kinds.ps
 plan-window-below t =
-    and 3 plan-window-kinds.ps (falls 3 plan-window-kinds.ps _<_ μ-plan-window t) plan-window.Pre
+    and 5 plan-window-kinds.ps (falls 5 plan-window-kinds.ps _<_ μ-plan-window t) plan-window.Pre
 
 -- what is known of the calls
 abbrev calls : ℕ → plan-window-lts.Claims
 calls t =
-    (power-reads.Asked, power-reads.Learnt, low-reads.Asked, low-reads.Learnt, high-reads.Asked, high-reads.Learnt, split-reads.Asked, split-reads.Learnt, plan-window-below t, plan-window.Post)
+    (split-reads.Asked, split-reads.Learnt, pass-reads.Asked, pass-reads.Learnt, left-of-reads.Asked, left-of-reads.Learnt, plan-window-below t, plan-window.Post, right-of-reads.Asked, right-of-reads.Learnt)
 
 module _ (t : ℕ) where
   abbrev Start : Type 0
   Start = plan-window-lts.Start (calls t) (plan-window-at t) plan-window.Post
 
-  abbrev Halved : Type 0
-  Halved = plan-window-lts.After-split (calls t) (plan-window-at t) plan-window.Post
-
   module _ (s : Start) where
     abbrev counts : List ℕ
     counts = s .args .counts .now
 
-    abbrev given : Planned (s .args .h) (s .args .level) (length counts) (s .args .m)
-    given = s .pre .1 .0 .0
-
-  -- what the level and its split say of the halves
-  module _ (c : Halved) where
-    abbrev start : Start
-    start = c .before .before .before .before .before .before .before .before
-
-    abbrev half : ℕ
-    half = c .before .before .before .power .result
-
-    abbrev h : ℕ
-    h = start .args .h
+    abbrev part : Part
+    part = s .args .part
 
     abbrev l : ℕ
-    l = start .args .level
+    l = s .args .level
 
-    pos : 1 ≤ l
-    pos = pos-of-ne-zero (c .before .before .before .before .if1 .left)
+    -- the shares whose rows are lent, and the window within its limits
+    abbrev S : Shares
+    S = s .pre .1 .1 .0
 
-    known : Down h l (length (counts start)) (start .args .m) half
-    known = down h l (length (counts start)) (start .args .m) half (given start) pos (c .before .before .before .power .ensures .0)
+    abbrev rows : Rows S (s .args .lows .now) (s .args .highs .now)
+    rows = s .pre .1 .1 .1
 
-    may : Ranged half (shares h .low l) (shares h .high l) (start .args .m) (c .split .result)
-    may = rw (c .before .before .low .ensures .0, c .before .high .ensures .0) at (c .split .ensures .0)
+    abbrev given : Planned S l (length counts) (part .keys)
+    given = s .pre .1 .1 .2
 
-    first-long : length (take half (counts start)) ≡ half
-    first-long = simp length-take (omega (arith, known .whole))
+    abbrev Weighed : List ℕ → Part → Type 0
+    Weighed ws p = PartOf ws (s .args .at .now) (s .args .weights .now) p
 
-    share : (ws : List ℕ) → Marked ws (start .args .at .now) (start .args .weights .now) → start .args .a + start .args .m ≤ length ws
-        → c .split .result ≡ leftShare (shares h) (l - 1) (start .args .front) (take (start .args .m) (drop (start .args .a) ws))
-    share ws d long =
-        let e : l ≡ suc (l - 1) = omega (arith, pos) in
-        c .split .ensures .1 (shares h) (l - 1) ws (c .before .before .before .power .ensures .0) (c .before .before .low .ensures .0 ∙ ap (shares h .low) e) (c .before .high .ensures .0 ∙ ap (shares h .high) e) d long
+  module _ (c : plan-window-lts.Else1 (calls t) (plan-window-at t) plan-window.Post) where
+    above : 1 ≤ l (c .before .before .before .before .before .before)
+    above = pos-of-ne-zero (c .if1 .left)
+
+    halved : let s = c .before .before .before .before .before .before in Down (S s) (l s) (length (counts s)) (part s .keys) (length (counts s) / 2)
+    halved = let s = c .before .before .before .before .before .before in down (S s) (l s) (length (counts s)) (part s .keys) (given s) above
+
+  -- what the split and the marks passed say of the halves
+  module _ (c : plan-window-lts.After-pass (calls t) (plan-window-at t) plan-window.Post) where
+    abbrev s : Start
+    s = c .before .before .before .before .before .before .before .before .before .before
+
+    abbrev else : plan-window-lts.Else1 (calls t) (plan-window-at t) plan-window.Post
+    else = c .before .before .before .before
+
+    abbrev half : ℕ
+    half = length (counts s) / 2
+
+    abbrev i : ℕ
+    i = c .before .split .result
+
+    may : Ranged half (S s .low (l s)) (S s .high (l s)) (part s .keys) i
+    may = rw (rows s .low .is (l s) (given s .level), rows s .high .is (l s) (given s .level)) at (c .before .split .ensures .0)
+
+    left : (ws : List ℕ) → Weighed s ws (part s) → Weighed s ws (leftOf (part s) i (c .pass .result))
+    left ws d = left-part ws (s .args .at .now) (s .args .weights .now) (part s) d i (may .0) (c .pass .result) (c .pass .ensures ws d)
+
+    right : (ws : List ℕ) → Weighed s ws (part s) → Weighed s ws (rightOf (part s) i (c .pass .result))
+    right ws d = right-part ws (s .args .at .now) (s .args .weights .now) (part s) d i (may .0) (c .pass .result) (c .pass .ensures ws d)
+
+    share : (R : Shares) (ws : List ℕ) → l s ≤ R .height → Rows R (s .args .lows .now) (s .args .highs .now) → Weighed s ws (part s) → i ≡ leftShare R (l s - 1) (part s .front) (weightsIn ws (part s))
+    share R ws h r d =
+        let e : l s ≡ suc (l s - 1) = omega (arith, above else) in
+        c .before .split .ensures .1 R (l s - 1) ws (halved else .power) (r .low .is (l s) h ∙ ap (R .low) e) (r .high .is (l s) h ∙ ap (R .high) e) d
+
+    first-long : length (take half (counts s)) ≡ half
+    first-long = simp length-take (omega (arith, halved else .whole))
 
   module _ (c : plan-window-lts.After-plan-window (calls t) (plan-window-at t) plan-window.Post) where
+    abbrev passed : plan-window-lts.After-pass (calls t) (plan-window-at t) plan-window.Post
+    passed = c .before .before .before
+
     abbrev xs : List ℕ
-    xs = c .plan-window .last .1 .1 .1 .1 .1 .1 .1 .0
+    xs = c .plan-window .last .1 .1 .1 .1 .1 .1 .0
 
     -- the first half's counts are as many as were lent
-    first-length : length xs ≡ half (c .before .before)
-    first-length = c .plan-window .ensures .0 ∙ first-long (c .before .before)
+    first-length : length xs ≡ half passed
+    first-length = c .plan-window .ensures .0 ∙ first-long passed
 
   module _ (c : plan-window-lts.After-slice-known3 (calls t) (plan-window-at t) plan-window.Post) where
-    abbrev ys : List ℕ
-    ys = c .before .before .plan-window2 .last .1 .1 .1 .1 .1 .1 .1 .0
+    abbrev first : plan-window-lts.After-plan-window (calls t) (plan-window-at t) plan-window.Post
+    first = c .before .before .before .before .before .before .before
 
-    second-long : length ys ≡ half (c .before .before .before .before .before .before .before .before)
-    second-long = c .before .before .plan-window2 .ensures .0 ∙ second-length (counts (c .before .before .before .before .before .before .before .before .before .before .before .before .before .before .before .before)) (xs (c .before .before .before .before .before .before)) (half (c .before .before .before .before .before .before .before .before)) (first-length (c .before .before .before .before .before .before)) (known (c .before .before .before .before .before .before .before .before) .whole)
+    abbrev ys : List ℕ
+    ys = c .before .before .plan-window2 .last .1 .1 .1 .1 .1 .1 .0
+
+    second-long : length ys ≡ half (passed first)
+    second-long = c .before .before .plan-window2 .ensures .0 ∙ second-length (counts (s (passed first))) (xs first) (half (passed first)) (first-length first) (halved (else (passed first)) .whole)
 
 plan-window-slice-write-counts : (t : ℕ) → plan-window-lts.Need-slice-write-counts (calls t) (plan-window-at t) plan-window.Post
-plan-window-slice-write-counts t c = let s = c .before .before .before .before in omega (arith, given t s .segments, pow-pos (s .args .level))
+plan-window-slice-write-counts t c = let s = c .before .before .before .before .before .before in omega (arith, given t s .segments, pow-pos (l t s))
 
-plan-window-sub-power : (t : ℕ) → plan-window-lts.Need-sub-power (calls t) (plan-window-at t) plan-window.Post
-plan-window-sub-power t c = pos-of-ne-zero (c .if1 .left)
+plan-window-mul-split : (t : ℕ) → plan-window-lts.Need-mul-split (calls t) (plan-window-at t) plan-window.Post
+plan-window-mul-split t c = let s = c .before .before .before .before .before .before in omega (arith, given t s .level, given t s .height)
 
-plan-window-power-requires : (t : ℕ) → plan-window-lts.Need-power-requires (calls t) (plan-window-at t) plan-window.Post
-plan-window-power-requires t c κs = let s = c .before .before .before .before in omega (arith, given t s .level, given t s .to)
+plan-window-shared-slice-read-split : (t : ℕ) → plan-window-lts.Need-shared-slice-read-split (calls t) (plan-window-at t) plan-window.Post
+plan-window-shared-slice-read-split t c = let s = c .before .before .before .before .before .before .before in omega (arith, given t s .level, rows t s .low .long)
 
-plan-window-low-requires : (t : ℕ) → plan-window-lts.Need-low-requires (calls t) (plan-window-at t) plan-window.Post
-plan-window-low-requires t c κs = let s = c .before .before .before .before .before in (given t s .from, given t s .to, given t s .level)
+plan-window-mul-split-2 : (t : ℕ) → plan-window-lts.Need-mul-split-2 (calls t) (plan-window-at t) plan-window.Post
+plan-window-mul-split-2 t c = let s = c .before .before .before .before .before .before .before in omega (arith, given t s .level, given t s .height)
 
-plan-window-high-requires : (t : ℕ) → plan-window-lts.Need-high-requires (calls t) (plan-window-at t) plan-window.Post
-plan-window-high-requires t c κs = let s = c .before .before .before .before .before .before in (given t s .from, given t s .to, given t s .level)
+plan-window-shared-slice-read-split-2 : (t : ℕ) → plan-window-lts.Need-shared-slice-read-split-2 (calls t) (plan-window-at t) plan-window.Post
+plan-window-shared-slice-read-split-2 t c = let s = c .before .before .before .before .before .before .before .before in omega (arith, given t s .level, rows t s .high .long)
 
 plan-window-split-requires : (t : ℕ) → plan-window-lts.Need-split-requires (calls t) (plan-window-at t) plan-window.Post
 plan-window-split-requires t c κs =
-    let s = c .before .before .before .before .before .before .before in
-    let k = down (s .args .h) (s .args .level) (length (counts t s)) (s .args .m) (c .before .before .power .result) (given t s) (pos-of-ne-zero (c .before .before .before .if1 .left)) (c .before .before .power .ensures .0) in
-    ((rw (c .before .low .ensures .0, c .high .ensures .0) (k .splits), s .pre .1 .0 .1, s .pre .1 .0 .2), s .pre .1 .1)
+    let s = c .before .before .before .before .before .before .before .before in
+    (s .pre .1 .0, rw (rows t s .low .is (l t s) (given t s .level), rows t s .high .is (l t s) (given t s .level)) (halved t (c .before .before) .splits))
+
+plan-window-pass-requires : (t : ℕ) → plan-window-lts.Need-pass-requires (calls t) (plan-window-at t) plan-window.Post
+plan-window-pass-requires t c κs = (c .before .before .before .before .before .before .before .before .before .pre .1 .0, c .split .ensures .0 .0)
+
+plan-window-left-of-requires : (t : ℕ) → plan-window-lts.Need-left-of-requires (calls t) (plan-window-at t) plan-window.Post
+plan-window-left-of-requires t c κs = tt
 
 plan-window-sub-plan-window : (t : ℕ) → plan-window-lts.Need-sub-plan-window (calls t) (plan-window-at t) plan-window.Post
-plan-window-sub-plan-window t c = pos t c
+plan-window-sub-plan-window t c = above t (else t (c .before))
 
 plan-window-slice-relend-prefix-plan-window : (t : ℕ) → plan-window-lts.Need-slice-relend-prefix-plan-window (calls t) (plan-window-at t) plan-window.Post
-plan-window-slice-relend-prefix-plan-window t c = omega (arith, known t c .whole)
+plan-window-slice-relend-prefix-plan-window t c = omega arith
 
 plan-window-slice-aggregate-plan-window : (t : ℕ) → plan-window-lts.Need-slice-aggregate-plan-window (calls t) (plan-window-at t) plan-window.Post
-plan-window-slice-aggregate-plan-window t c = sym (first-long t (c .before))
+plan-window-slice-aggregate-plan-window t c = sym (first-long t (c .before .before))
 
 plan-window-plan-window-requires : (t : ℕ) → plan-window-lts.Need-plan-window-requires (calls t) (plan-window-at t) plan-window.Post
 plan-window-plan-window-requires t c κs =
-    let s = c .before .before .before .before .before .before .before .before .before in
-    let a = may t (c .before) in (
-      omega (arith, s .pre .0, pos t (c .before)),
-      ((known t (c .before) .left _ _ (first-long t (c .before)) a, omega (arith, a .0, s .pre .1 .0 .1), s .pre .1 .0 .2), s .pre .1 .1),
-    )
+    let p = c .before .before in
+    let w = s t p .pre .1 .0 in
+    let e = c .before .left-of .ensures in
+    (omega (arith, s t p .pre .0, above t (else t p)), ((w .0, rw e (left t p (w .0) (w .1))), (S t (s t p), rows t (s t p), rw e (halved t (else t p) .left _ _ (first-long t p) (may t p)))))
 
-plan-window-add-plan-window : (t : ℕ) → plan-window-lts.Need-add-plan-window (calls t) (plan-window-at t) plan-window.Post
-plan-window-add-plan-window t c = omega (arith, may t (c .before .before .before .before) .0, c .before .before .before .before .before .before .before .before .before .before .before .before .pre .1 .0 .1)
+plan-window-right-of-requires : (t : ℕ) → plan-window-lts.Need-right-of-requires (calls t) (plan-window-at t) plan-window.Post
+plan-window-right-of-requires t c κs =
+    let p = passed t (c .before .before) in
+    let w = s t p .pre .1 .0 in
+    (omega (arith, w .1 .inside, w .1 .small), may t p .0, left-small (w .0) (s t p .args .at .now) (s t p .args .weights .now) (part t (s t p)) (w .1) (i t p) (may t p .0) (p .pass .result) (p .pass .ensures (w .0) (w .1)))
 
 plan-window-sub-plan-window-2 : (t : ℕ) → plan-window-lts.Need-sub-plan-window-2 (calls t) (plan-window-at t) plan-window.Post
-plan-window-sub-plan-window-2 t c = may t (c .before .before .before .before) .0
-
-plan-window-sub-plan-window-3 : (t : ℕ) → plan-window-lts.Need-sub-plan-window-3 (calls t) (plan-window-at t) plan-window.Post
-plan-window-sub-plan-window-3 t c = pos t (c .before .before .before .before)
+plan-window-sub-plan-window-2 t c = above t (else t (passed t (c .before .before .before)))
 
 plan-window-mul-plan-window : (t : ℕ) → plan-window-lts.Need-mul-plan-window (calls t) (plan-window-at t) plan-window.Post
-plan-window-mul-plan-window t c = omega (arith, c .before .before .before .before .before .before .before .power .ensures .1)
+plan-window-mul-plan-window t c = let p = passed t (c .before .before .before) in omega (arith, halved t (else t p) .splits .small)
 
-plan-window-sub-plan-window-4 : (t : ℕ) → plan-window-lts.Need-sub-plan-window-4 (calls t) (plan-window-at t) plan-window.Post
-plan-window-sub-plan-window-4 t c = second-in (counts t (c .before .before .before .before .before .before .before .before .before .before .before .before)) (xs t (c .before .before)) (half t (c .before .before .before .before)) (first-length t (c .before .before))
+plan-window-sub-plan-window-3 : (t : ℕ) → plan-window-lts.Need-sub-plan-window-3 (calls t) (plan-window-at t) plan-window.Post
+plan-window-sub-plan-window-3 t c = let d = c .before .before .before in second-in (counts t (s t (passed t d))) (xs t d) (half t (passed t d)) (first-length t d)
 
 plan-window-part-plan-window-start : (t : ℕ) → plan-window-lts.Need-part-plan-window-start (calls t) (plan-window-at t) plan-window.Post
-plan-window-part-plan-window-start t c = second-in (counts t (c .before .before .before .before .before .before .before .before .before .before .before .before)) (xs t (c .before .before)) (half t (c .before .before .before .before)) (first-length t (c .before .before))
+plan-window-part-plan-window-start t c = let d = c .before .before .before in second-in (counts t (s t (passed t d))) (xs t d) (half t (passed t d)) (first-length t d)
 
 plan-window-part-plan-window-end : (t : ℕ) → plan-window-lts.Need-part-plan-window-end (calls t) (plan-window-at t) plan-window.Post
 plan-window-part-plan-window-end t c = search needs
 
 plan-window-plan-window-requires-2 : (t : ℕ) → plan-window-lts.Need-plan-window-requires-2 (calls t) (plan-window-at t) plan-window.Post
 plan-window-plan-window-requires-2 t c κs =
-    let s = c .before .before .before .before .before .before .before .before .before .before .before .before .before in
-    let d = c .before .before .before .before .before in
-    let a = may t d in
-    let n = second-length (counts t s) (xs t (c .before .before .before)) (half t d) (first-length t (c .before .before .before)) (known t d .whole) in
-    (omega (arith, s .pre .0, pos t d), ((known t d .right _ _ n a, omega (arith, a .0, s .pre .1 .0 .1), omega arith), s .pre .1 .1))
+    let d = c .before .before .before .before in
+    let p = passed t d in
+    let w = s t p .pre .1 .0 in
+    let e = c .before .right-of .ensures in
+    let n = second-length (counts t (s t p)) (xs t d) (half t p) (first-length t d) (halved t (else t p) .whole) in
+    (omega (arith, s t p .pre .0, above t (else t p)), ((w .0, rw e (right t p (w .0) (w .1))), (S t (s t p), rows t (s t p), rw e (halved t (else t p) .right _ _ n (may t p)))))
 
 plan-window-same-length : (t : ℕ) → plan-window-lts.Need-same-length (calls t) (plan-window-at t) plan-window.Post
 plan-window-same-length t c = simp length-set
 
 plan-window-returns : (t : ℕ) → plan-window-lts.Need-returns (calls t) (plan-window-at t) plan-window.Post
 plan-window-returns t c =
-    let s = c .before .before .before .before in
-    (simp length-set, λ ws d long. plan-one (shares (s .args .h)) (s .args .front) (s .args .level) (s .args .a) (s .args .m) ws long (counts t s) (c .if1 .taken) (given t s .segments))
+    let s = c .before .before .before .before .before .before in
+    (simp length-set, λ R ws h r d. plan-one R (part t s .front) (l t s) (part t s .place) (part t s .keys) ws (d .inside) (counts t s) (c .if1 .taken) (given t s .segments))
 
 plan-window-same-length-2 : (t : ℕ) → plan-window-lts.Need-same-length-2 (calls t) (plan-window-at t) plan-window.Post
 plan-window-same-length-2 t c =
-    let d = c .before .before .before .before .before .before .before .before in
-    halves-length (counts t (start t d)) (xs t (c .before .before .before .before .before .before)) (half t d) (first-length t (c .before .before .before .before .before .before)) (ys t c) (second-long t c) (known t d .whole)
+    let p = passed t (first t c) in
+    halves-length (counts t (s t p)) (xs t (first t c)) (half t p) (first-length t (first t c)) (ys t c) (second-long t c) (halved t (else t p) .whole)
 
 plan-window-returns-2 : (t : ℕ) → plan-window-lts.Need-returns-2 (calls t) (plan-window-at t) plan-window.Post
 plan-window-returns-2 t c =
-    let s = c .before .before .before .before .before .before .before .before .before .before .before .before .before .before .before .before in
-    let d = c .before .before .before .before .before .before .before .before in (
-      halves-length (counts t s) (xs t (c .before .before .before .before .before .before)) (half t d) (first-length t (c .before .before .before .before .before .before)) (ys t c) (second-long t c) (known t d .whole),
-      λ ws g long.
-          let i : ℕ = d .split .result in
-          let a = may t d in
-          plan-two (shares (s .args .h)) (s .args .front) (s .args .level) (s .args .a) (s .args .m) ws long (counts t s) (xs t (c .before .before .before .before .before .before)) (ys t c) (half t d) i (pos t d) (a .0) (share t d ws g long) (first-length t (c .before .before .before .before .before .before))
-          (c .before .before .before .before .before .before .plan-window .ensures .1 ws g (omega (arith, a .0, long))) (c .before .before .plan-window2 .ensures .1 ws g (omega (arith, a .0, long))),
+    let f = first t c in
+    let p = passed t f in
+    let a = part t (s t p) in
+    let u = f .before .before .left-of .ensures in
+    let v = c .before .before .before .before .right-of .ensures in (
+      halves-length (counts t (s t p)) (xs t f) (half t p) (first-length t f) (ys t c) (second-long t c) (halved t (else t p) .whole),
+      λ R ws h r d.
+          let k : l t (s t p) - 1 ≤ R .height = omega arith in
+          plan-two R (a .front) (l t (s t p)) (a .place) (a .keys) ws (d .inside) (counts t (s t p)) (xs t f) (ys t c) (half t p) (i t p) (above t (else t p)) (may t p .0) (share t p R ws h r d) (first-length t f)
+          (f .plan-window .ensures .1 R ws k r (subst (Weighed t (s t p) ws) (sym u) (left t p ws d)) ∙ ap (λ (q : Part). plan R (l t (s t p) - 1) (q .front) (weightsIn ws q)) u)
+          (c .before .before .plan-window2 .ensures .1 R ws k r (subst (Weighed t (s t p) ws) (sym v) (right t p ws d)) ∙ ap (λ (q : Part). plan R (l t (s t p) - 1) (q .front) (weightsIn ws q)) v),
     )
 
 pub +plan-window-spec : {M : Type 1} → statement M
 +plan-window-spec = close μ-plan-window λ t. plan-window-lts.spec (calls t) (plan-window-at t) plan-window.Post
     (plan-window-slice-write-counts t)
-    (plan-window-sub-power t)
-    (plan-window-power-requires t)
-    (plan-window-low-requires t)
-    (plan-window-high-requires t)
+    (plan-window-mul-split t)
+    (plan-window-shared-slice-read-split t)
+    (plan-window-mul-split-2 t)
+    (plan-window-shared-slice-read-split-2 t)
     (plan-window-split-requires t)
+    (plan-window-pass-requires t)
+    (plan-window-left-of-requires t)
     (plan-window-sub-plan-window t)
     (plan-window-slice-relend-prefix-plan-window t)
     (plan-window-slice-aggregate-plan-window t)
     (plan-window-plan-window-requires t)
-    (plan-window-add-plan-window t)
+    (plan-window-right-of-requires t)
     (plan-window-sub-plan-window-2 t)
-    (plan-window-sub-plan-window-3 t)
     (plan-window-mul-plan-window t)
-    (plan-window-sub-plan-window-4 t)
+    (plan-window-sub-plan-window-3 t)
     (plan-window-part-plan-window-start t)
     (plan-window-part-plan-window-end t)
     (plan-window-plan-window-requires-2 t)

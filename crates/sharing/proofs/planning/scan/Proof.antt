@@ -1,134 +1,100 @@
--- `sharing::planning::scan` meets its contract. The loop's invariant: the marks up to i are passed, and the best from first to i is found.
-use mathlib.Core.Path.{refl, ap, _∙_}
+-- `sharing::planning::scan` meets its contract. The loop's invariant: the marks up to i are passed, and the best below i is found.
+use mathlib.Core.Path.{_≡_, ap, _∙_}
 use mathlib.Core.List.{List}
 use Prim.Native.Nat.{ℕ, _+_, _-_, _≤_}
 use native.Mathlib.Omega.{arith}
-use lib.Dec.{leb}
-use lib.ListN.{length}
-use borrow.Author.Needs.{needs}
-use lib.Seq.{take-length}
-use Rattle.lists.specs.Search.{placeBy}
-use Rattle.sharing.specs.Marks.{Marked}
-use Rattle.sharing.specs.Passing.{Fit}
-use Rattle.sharing.proofs.Scanning.{Near, near-one, near-more, halves-at, tried-over, Scanned, scan-start, scan-more, scan-ends}
+use Rattle.rules.specs.SharingOut.{formula6, least}
+use Rattle.rules.proofs.Sharing.SharingOut.{least-from}
+use Rattle.sharing.specs.Parts.{weightsIn, PartOf}
+use Rattle.sharing.specs.Tries.{Modest}
+use Rattle.sharing.proofs.Looks.{bestOf}
+use Rattle.sharing.proofs.Parts.{next-inside}
+use Rattle.sharing.proofs.Scanning.{Scanned, Stretched, scan-start, stretched, scan-ends}
 use Rattle.sharing.proofs.planning.scan.Statement.{statement}
 use Rattle.sharing.proofs.planning.scan.Tie as tie
 
 abbrev Inv-loop : tie.InvT-loop
-Inv-loop at weights a m front c first last left all passed₀ found₀ i₀ passed found i =
-    ((first ≤ i) × (i ≤ last)) ×
-    (all ≤ 300) ×
-    Fit passed (length at) ×
-    Near first i found ×
-    ((ws : List ℕ) → Marked ws at weights → a + m ≤ length ws → Scanned c front a m first ws at all i passed found)
+Inv-loop at weights part c first last passed₀ found₀ i₀ passed found i =
+    ((first ≤ i) × (i ≤ last)) × Modest found × ((ws : List ℕ) → PartOf ws at weights part → Scanned c first ws at part i passed found)
 
 abbrev μ-loop : tie.MeasureT-loop
-μ-loop at weights a m front c first last left all passed₀ found₀ i₀ passed found i = last - i
+μ-loop at weights part c first last passed₀ found₀ i₀ passed found i = last - i
 
-add-weight-between : tie.Need-add-weight-between Inv-loop μ-loop
-add-weight-between c = omega arith
+-- what is known of a stretch, whatever the window's weights are
+module _ (c : tie.After-reach Inv-loop μ-loop) where
+  abbrev s : tie.Start Inv-loop μ-loop
+  s = c .before .before .before .before .before
 
-weight-between-requires : tie.Need-weight-between-requires Inv-loop μ-loop
-weight-between-requires c κs = search needs
+  module _ (ws : List ℕ) (d : PartOf ws (s .args .at .now) (s .args .weights .now) (s .args .part)) where
+    abbrev Known : Type 0
+    Known = Stretched (s .args .c) (s .args .first) (s .args .last) ws (s .args .at .now) (s .args .weights .now) (s .args .part) (s .pre .1 .0) d (c .before .loop .i) (c .reach .result) (c .before .loop .passed) (c .before .loop .found)
 
-add-left : tie.Need-add-left Inv-loop μ-loop
-add-left c = omega arith
+    known : Known
+    known =
+        let L = c .before .loop in
+        stretched (s .args .c) (s .args .first) (s .args .last) ws (s .args .at .now) (s .args .weights .now) (s .args .part) (s .pre .1 .0) d (s .pre .1 .1) (L .i) (c .reach .result) (L .passed) (L .found) (L .inv .0 .0) (L .inv .0 .1) (L .inv .2 ws d) (c .reach .ensures)
 
-add-weight-between-2 : tie.Need-add-weight-between-2 Inv-loop μ-loop
-add-weight-between-2 c = omega arith
+  -- by the weights that the caller has
+  abbrev one : Known (s .pre .0 .0) (s .pre .0 .1)
+  one = known (s .pre .0 .0) (s .pre .0 .1)
 
-add-weight-between-3 : tie.Need-add-weight-between-3 Inv-loop μ-loop
-add-weight-between-3 c = omega arith
-
-weight-between-requires-2 : tie.Need-weight-between-requires-2 Inv-loop μ-loop
-weight-between-requires-2 c κs = search needs
-
-add-all : tie.Need-add-all Inv-loop μ-loop
-add-all c = omega arith
-
-add-mark-from : tie.Need-add-mark-from Inv-loop μ-loop
-add-mark-from c = omega arith
-
-mark-from-requires : tie.Need-mark-from-requires Inv-loop μ-loop
-mark-from-requires c κs = search needs
-
-over-requires : tie.Need-over-requires Inv-loop μ-loop
-over-requires c κs = search needs
-
-try-at-requires : tie.Need-try-at-requires Inv-loop μ-loop
-try-at-requires c κs =
-    let s = c .before .before .before .before .before .before in
-    let x = c .before .before .before .weight-between .ensures .0 in
-    let y = c .before .before .weight-between2 .ensures .0 in
-    (omega arith, omega (arith, c .over .ensures), halves-at (s .args .c) (s .args .m) (s .args .first) (s .args .last) (s .pre .0 .0) (s .args .first) (omega arith) (s .pre .0 .0 .some))
+pass-requires : tie.Need-pass-requires Inv-loop μ-loop
+pass-requires c κs = (c .before .before .pre .0, omega arith)
 
 loop-holds : tie.Need-loop-holds Inv-loop μ-loop
 loop-holds c =
-    let s = c .before .before .before .before .before .before .before in
-    let x = c .before .before .before .before .weight-between in
-    let y = c .before .before .before .weight-between2 in
-    let n = c .before .before .mark-from in
-    let t = c .try-at in
-    let e = tried-over (s .args .front + x .result) (s .args .front + x .result + y .result) (s .args .c) (s .args .m) (s .args .first) _ (t .result) (c .before .over .ensures) (t .ensures .0) in (
-      (omega arith, s .pre .0 .0 .some),
-      omega (arith, x .ensures .0, y .ensures .0),
-      record { next = n .ensures .0; left = omega (arith, x .ensures .0) },
-      near-one _ _ (s .args .c) (s .args .m) (s .args .first) (t .result) e (t .ensures .1) (t .ensures .2),
-      λ ws d long. scan-start (s .args .c) (s .args .front) (s .args .a) (s .args .m) (s .args .first) ws (s .args .at .now) long (x .result) (y .result) _ (t .result) (omega arith) (x .ensures .1 ws d) (y .ensures .1 ws d) (n .ensures .1 ∙ ap (placeBy (leb (s .args .a + s .args .first))) (take-length (s .args .at .now))) refl e,
+    let s = c .before .before .before in (
+      (omega arith, s .pre .1 .0 .some),
+      omega arith,
+      λ ws d. scan-start (s .args .c) (s .args .first) (s .args .last) ws (s .args .at .now) (s .args .weights .now) (s .args .part) (s .pre .1 .0) d (c .pass .result) (c .pass .ensures ws d),
     )
 
-add-pass : tie.Need-add-pass Inv-loop μ-loop
-add-pass c = omega arith
+reach-requires : tie.Need-reach-requires Inv-loop μ-loop
+reach-requires c κs =
+    let s = c .before .before .before .before in
+    let w = s .pre .0 in
+    next-inside (w .0) (s .args .at .now) (s .args .weights .now) (s .args .part) (w .1) (c .loop .i) (omega (arith, c .loop .inv .0, s .pre .1 .0 .inside)) (c .loop .passed) (c .loop .inv .2 (w .0) (w .1) .passed)
 
-pass-requires : tie.Need-pass-requires Inv-loop μ-loop
-pass-requires c κs = search needs
+sub-t14 : tie.Need-sub-t14 Inv-loop μ-loop
+sub-t14 c = one (c .before .before) .small
+
+nearest-requires : tie.Need-nearest-requires Inv-loop μ-loop
+nearest-requires c κs =
+    let r = c .before .before in
+    (r .before .loop .inv .1, one r .weighted, one r .halves)
+
+pass-one-requires : tie.Need-pass-one-requires Inv-loop μ-loop
+pass-one-requires c κs =
+    let r = c .before .before .before .before in
+    let m = one r .mark (c .if1 .left) in
+    (m .0, one r .weighted .left, m .1, m .2)
 
 add-i : tie.Need-add-i Inv-loop μ-loop
-add-i c = omega arith
-
-over-requires-2 : tie.Need-over-requires-2 Inv-loop μ-loop
-over-requires-2 c κs = search needs
-
-try-at-requires-2 : tie.Need-try-at-requires-2 Inv-loop μ-loop
-try-at-requires-2 c κs =
-    let s = c .before .before .before .before .before .before .before .before .before .before .before in
-    let L = c .before .before .before .loop in
-    let p = c .before .pass .ensures .0 in
-    (omega (arith, p .next, p .left), omega (arith, c .over2 .ensures, L .inv .1), halves-at (s .args .c) (s .args .m) (s .args .first) (s .args .last) (s .pre .0 .0) (L .i + 1) (omega arith) (omega arith))
-
-nearer-requires : tie.Need-nearer-requires Inv-loop μ-loop
-nearer-requires c κs =
-    let n = c .before .before .before .before .loop .inv .3 in
-    (n .num, n .den, c .try-at2 .ensures .1, c .try-at2 .ensures .2)
+add-i c = let k = one (c .before .before .before .before .before) in omega (arith, k .halves .left, k .halves .small)
 
 loop-less : tie.Need-loop-less Inv-loop μ-loop
-loop-less c = omega arith
+loop-less c = let k = one (c .before .before .before .before .before) in omega (arith, k .from, k .to, c .before .if1 .left)
 
 loop-again : tie.Need-loop-again Inv-loop μ-loop
 loop-again c =
-    let s = c .before .before .before .before .before .before .before .before .before .before .before .before .before in
-    let L = c .before .before .before .before .before .loop in
-    let p = c .before .before .before .pass in
-    let t = c .before .try-at2 in
-    let all : ℕ = s .args .front + c .before .before .before .before .before .before .before .before .before .before .weight-between .result + c .before .before .before .before .before .before .before .before .before .weight-between2 .result in
-    let e = tried-over (p .result .left) all (s .args .c) (s .args .m) (L .i + 1) _ (t .result) (c .before .before .over2 .ensures) (t .ensures .0) in (
-      (omega arith, omega arith),
-      L .inv .1,
-      p .ensures .0,
-      near-more (s .args .first) (L .i) (L .found) (t .result) (c .nearer .result) (L .inv .0 .0) (L .inv .3) (near-one _ _ (s .args .c) (s .args .m) (L .i + 1) (t .result) e (t .ensures .1) (t .ensures .2)) (c .nearer .ensures),
-      λ ws d long.
-          let g = L .inv .4 ws d long in
-          scan-more (s .args .c) (s .args .front) (s .args .a) (s .args .m) (s .args .first) ws (s .args .at .now) long all (L .i) (L .passed) (p .result) (L .found) (t .result) (c .nearer .result) (L .inv .0 .0) (omega (arith, s .pre .0 .0 .inside)) g (p .ensures .1 ws d (g .next)) e (c .nearer .ensures),
+    let r = c .before .before .before .before .before in (
+      (omega (arith, one r .from, r .before .loop .inv .0), omega (arith, one r .to, c .before .if1 .left)),
+      c .before .before .nearest .ensures .0,
+      λ ws d. record {
+        passed = known r ws d .on (c .before .if1 .left) (c .pass-one .result) (c .pass-one .ensures .0) (c .pass-one .ensures .1);
+        best = c .before .before .nearest .ensures .1 ∙ known r ws d .best;
+      },
     )
 
 returns : tie.Need-returns Inv-loop μ-loop
 returns c =
-    let s = c .before .before .before .before .before .before .before .before .before in
-    let L = c .before .loop in
-    let n = L .inv .3 in (
-      (n .from, omega (arith, n .to)),
-      λ ws d long. scan-ends (s .args .c) (s .args .front) (s .args .a) (s .args .m) (s .args .first) ws (s .args .at .now) long _ (L .i) (s .args .last) (L .passed) (L .found) (omega arith) (L .inv .4 ws d long),
-    )
+    let r = c .before .before .before .before in
+    let a = s r .args in
+    let w = s r .pre .0 in
+    let is : (ws : List ℕ) → PartOf ws (a .at .now) (a .weights .now) (a .part) → c .before .nearest .result .keys ≡ least (formula6 (a .c) (a .part .front) (weightsIn ws (a .part))) (a .first) (a .last - a .first) =
+    λ ws d. scan-ends (a .c) (a .first) (a .last) ws (a .at .now) (a .weights .now) (a .part) (s r .pre .1 .0) d (c .before .nearest .result) (c .before .nearest .ensures .1 ∙ known r ws d .best ∙ ap (λ (e : ℕ). bestOf (formula6 (a .c) (a .part .front) (weightsIn ws (a .part))) (a .first) (e + 1 - a .first)) (c .if1 .taken)) in
+    let l = least-from (formula6 (a .c) (a .part .front) (weightsIn (w .0) (a .part))) (a .first) (a .last - a .first) in
+    ((omega (arith, is (w .0) (w .1), l .0), omega (arith, is (w .0) (w .1), l .1, s r .pre .1 .0 .some)), is)
 
 pub scan-spec : {M : Type 1} → statement M
 scan-spec =
@@ -136,24 +102,13 @@ scan-spec =
     (tie.spec
     Inv-loop
     μ-loop
-    add-weight-between
-    weight-between-requires
-    add-left
-    add-weight-between-2
-    add-weight-between-3
-    weight-between-requires-2
-    add-all
-    add-mark-from
-    mark-from-requires
-    over-requires
-    try-at-requires
-    loop-holds
-    add-pass
     pass-requires
+    loop-holds
+    reach-requires
+    sub-t14
+    nearest-requires
+    pass-one-requires
     add-i
-    over-requires-2
-    try-at-requires-2
-    nearer-requires
     loop-less
     loop-again
     returns)

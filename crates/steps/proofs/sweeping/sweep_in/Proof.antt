@@ -28,7 +28,7 @@ module _ (s : tie.Start) where
   given = s .pre .0 .0
 
   fit : allowed ≤ length win
-  fit = omega (arith, room (s .args .h) (s .args .level) _ allowed (given .planned), sized-level (s .args .h) (s .args .level) allowed (s .args .counts .now) win given)
+  fit = omega (arith, room (shares (s .args .h)) (s .args .level) _ allowed (given .planned), sized-level (s .args .h) (s .args .level) allowed (s .args .counts .now) win given)
 
 module _ (c : tie.After-pack) where
   abbrev s : tie.Start
@@ -73,9 +73,10 @@ deal-out-requires c κs =
     let w = with-key (c .before .before .before .before .before) (c .before .before .before .open-gap .last .0) (c .before .before .before .open-gap .ensures) in (
       record {
         size = omega (arith, sized-level (s .args .h) (s .args .level) (allowed s) (s .args .counts .now) (win s) (given s));
+        height = given s .height;
         planned = record {
-          from = given s .planned .from;
-          to = given s .planned .to;
+          lawful = given s .planned .lawful;
+          height = given s .planned .height;
           level = given s .planned .level;
           segments = refl;
           limits = subst (Limits (shares (s .args .h)) (s .args .level) (s .args .level)) (sym m) (given s .planned .limits);

@@ -1,0 +1,25 @@
+-- `sharing::table::highs` meets its contract: a row of the table has the rules' high shares.
+use mathlib.Core.Path.{refl}
+use borrow.Author.Needs.{needs}
+use Rattle.rules.specs.Shares.{shares, highRows}
+use Rattle.sharing.proofs.Rows.{high-row, row-of}
+use Rattle.sharing.proofs.table.highs.Statement.{statement}
+use Rattle.sharing.proofs.table.highs.Tie as tie
+
+sub-result : tie.Need-sub-result
+sub-result c = search needs
+
+mul-result : tie.Need-mul-result
+mul-result c = search needs
+
+array-copy-out-result : tie.Need-array-copy-out-result
+array-copy-out-result c = search needs
+
+returns : tie.Need-returns
+returns c =
+    let from = c .before .pre .0 in
+    let to = c .before .pre .1 in
+    row-of highRows (shares (c .before .args .h) .high) _ refl from to (λ l h. high-row _ l from to h .0)
+
+pub highs-spec : {M : Type 1} → statement M
+highs-spec = tie.close (tie.spec sub-result mul-result array-copy-out-result returns)

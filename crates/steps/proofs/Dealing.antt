@@ -6,8 +6,8 @@ use native.Mathlib.Nat.{le-trans, mul-le-mul-left, pow-zero, pow-le-pow-right}
 use native.Mathlib.Decide.{decLt}
 use native.Mathlib.Omega.{arith}
 use lib.Dec.{lit≤}
-use lib.ListN.{length, take, drop, getD, length-map, List·getD-eq-default}
-use lib.Seq.{take-all, length-take-le}
+use lib.ListN.{length, take, getD, length-map, List·getD-eq-default}
+use lib.Seq.{length-take-le}
 use Rattle.lists.specs.Lists.{total, deal}
 use Rattle.slots.specs.Segments.{render}
 use Rattle.slots.specs.Windows.{window}
@@ -53,27 +53,24 @@ plan-fits S (suc l) n f ws p k = elim (decLt k (length ns)) [ yes i ↦ inner i 
         omega (arith, rw (pow-zero 2) at (b .1), ap total (window-zero k ns 0 i), p .lawful .gaps 0 (omega (arith, p .level)))
 
 -- THE COUNTS of a window's first m slots, as they are planned and lent
-module _ (S : Shares) (l n f m : ℕ) (F : Forecast) (window lent : List ℕ) (p : Planned S l n m) (e : m ≤ length window) (q : lent ≡ plan S l f (take m (drop 0 (map (weight (usedCells F)) (take m window))))) where
+module _ (S : Shares) (l n f m : ℕ) (F : Forecast) (window lent : List ℕ) (p : Planned S l n m) (e : m ≤ length window) (q : lent ≡ plan S l f (map (weight (usedCells F)) (take m window))) where
   abbrev ws : List ℕ
   ws = map (weight (usedCells F)) (take m window)
 
   long : length ws ≡ m
   long = length-map (take m window) (weight (usedCells F)) ∙ length-take-le m window e
 
-  is-plan : lent ≡ plan S l f ws
-  is-plan = q ∙ ap (plan S l f) (take-all m ws (omega (arith, long)))
-
   -- one for each segment, none above 64, and m in all
   pub one-each : length lent ≡ 2 ^ l
-  one-each = ap length is-plan ∙ length-plan S l f ws
+  one-each = ap length q ∙ length-plan S l f ws
 
   pub lent-fits : (k : ℕ) → getD lent k 0 ≤ 64
-  lent-fits k = rw is-plan (plan-fits S l n f ws (rw long p) k)
+  lent-fits k = rw q (plan-fits S l n f ws (rw long p) k)
 
   pub lent-total : total lent ≡ m
-  lent-total = ap total is-plan ∙ total-plan S l f ws ∙ long
+  lent-total = ap total q ∙ total-plan S l f ws ∙ long
 
   -- the keys dealt by them are the window shared out
   pub dealt : (last : List ℕ) → last ≡ render 0 (deal lent (take m window)) → last ≡ render 0 (shareOut S (weight (usedCells F)) f l (take m window))
   unfolding shareOut
-  dealt last r = r ∙ ap (λ (ns : List ℕ). render 0 (deal ns (take m window))) is-plan
+  dealt last r = r ∙ ap (λ (ns : List ℕ). render 0 (deal ns (take m window))) q

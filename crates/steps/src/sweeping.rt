@@ -1,7 +1,8 @@
 // A sweep of a window, in place: its keys packed, the new one put in or the old one taken out, and all shared out.
 ghost use mathlib.Core.Path.{_≡_};
-ghost use Prim.Native.Nat.{_+_, _-_, _≤_};
+ghost use Prim.Native.Nat.{_+_, _-_, _^_, _≤_};
 ghost use mathlib.Core.Bool.{not};
+ghost use mathlib.Core.List.{map};
 ghost use lib.Dec.{T, eqb};
 ghost use Rattle.lists.specs.Choice.{if_then_else_};
 ghost use Rattle.forecast.specs.Cells.{usedCells, weight};
@@ -9,22 +10,31 @@ ghost use Rattle.forecast.specs.Tidy.{Tidy};
 ghost use lib.ListN.{length, take};
 ghost use Rattle.slots.specs.Segments.{keys, segmentsOf};
 ghost use Rattle.slots.specs.Keys.{member, put, cut};
+ghost use Rattle.rules.specs.Shares.{shares};
+ghost use Rattle.rules.specs.SharingOut.{plan};
 ghost use Rattle.steps.specs.Sweeps.{Weighs, Packs, Windowed, shared};
 use forecast::Forecast;
 
-// The first `m` slots, which are keys, shared out over the whole window.
-fn deal_out(window: &mut [u64], m: usize, forecast: Forecast, front: usize, h: usize, level: usize)
-    requires { ⌜ Packs h level m (now window) × Weighs forecast × (front ≤ 12) ⌝ }
-    ensures { λ _. ⌜ now (window .exit) ≡ shared h level forecast front (take m (now (window .entry))) ⌝ }
+// How many of the first `m` slots, which are keys, each segment of a window gets: the keys that weigh are marked, and all are planned.
+fn plan_keys(
+    window: &[u64],
+    m: usize,
+    forecast: Forecast,
+    front: usize,
+    h: usize,
+    level: usize,
+    counts: &mut [usize],
+)
+    requires { ⌜ Packs h level m (now window) × Weighs forecast × (front ≤ 12) × (length (now counts) ≡ 2 ^ level) ⌝ }
+    ensures range { λ _. ⌜ length (now (counts .exit)) ≡ length (now (counts .entry)) ⌝ }
+    ensures counts { λ _. ⌜ now (counts .exit) ≡ plan (shares h) level front (map (weight (usedCells forecast)) (take m (now (window .entry)))) ⌝ }
 {
     let mut at = [0; 12];
     let mut weights = [0; 12];
-    let mut counts = [0; 64];
     let r = sharing::marking::mark(window, m, forecast, &mut at, &mut weights);
     let part = sharing::parting::whole(&weights[..r], m, front);
     let lows = sharing::table::lows(h);
     let highs = sharing::table::highs(h);
-    let n = sharing::table::power(level);
     sharing::planning::plan_window(
         &at[..r],
         &weights[..r],
@@ -32,8 +42,18 @@ fn deal_out(window: &mut [u64], m: usize, forecast: Forecast, front: usize, h: u
         &lows[..7],
         &highs[..7],
         level,
-        &mut counts[..n],
+        counts,
     );
+}
+
+// The first `m` slots, which are keys, shared out over the whole window.
+fn deal_out(window: &mut [u64], m: usize, forecast: Forecast, front: usize, h: usize, level: usize)
+    requires { ⌜ Packs h level m (now window) × Weighs forecast × (front ≤ 12) ⌝ }
+    ensures { λ _. ⌜ now (window .exit) ≡ shared h level forecast front (take m (now (window .entry))) ⌝ }
+{
+    let mut counts = [0; 64];
+    let n = sharing::table::power(level);
+    plan_keys(window, m, forecast, front, h, level, &mut counts[..n]);
     moves::spread(window, &counts[..n], m);
 }
 

@@ -52,8 +52,8 @@ pub fn pass(at: &[usize], weights: &[usize], part: Part, i: usize) -> Passed
         left: part.front,
     };
     while p.next < to {
-        let k = p.next;
-        if place <= at[k] {
+        let next = p.next;
+        if place <= at[next] {
             return p;
         }
         p = pass_one(weights, p);

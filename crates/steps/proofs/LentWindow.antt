@@ -96,6 +96,6 @@ module _ (ss : Segments) (slots : List ℕ) (sh : Shows ss slots) where
         lent-windowed m p q k = record {
           shows = lent-shows;
           counted = lent-counts ∙ right ∙ ap (map length) (sym lent-segments);
-          height = p;
+          some = p;
           planned = record { lawful = lawful h p q; height = q; level = low; segments = ap length lent-counts ∙ counts-long; limits = k };
         }

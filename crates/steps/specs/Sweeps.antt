@@ -24,7 +24,7 @@ shared h l F f ks = render 0 (shareOut (shares h) (weight (usedCells F)) f l ks)
 
 -- The first m slots of a window of level l are its keys, rising, and are within its limits.
 pub record Packs (h l m : ℕ) (window : List ℕ) : Type 0 where
-  pub height : 1 ≤ h
+  pub some : 1 ≤ h
   pub size : length window ≡ 64 * 2 ^ l
   pub planned : Planned (shares h) l (2 ^ l) m
   pub rising : Rising (take m window)
@@ -33,5 +33,5 @@ pub record Packs (h l m : ℕ) (window : List ℕ) : Type 0 where
 pub record Windowed (h l m : ℕ) (counts window : List ℕ) : Type 0 where
   pub shows : Shows (segmentsOf window) window
   pub counted : counts ≡ map length (segmentsOf window)
-  pub height : 1 ≤ h
+  pub some : 1 ≤ h
   pub planned : Planned (shares h) l (length counts) m

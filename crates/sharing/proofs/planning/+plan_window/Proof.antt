@@ -4,7 +4,7 @@ use mathlib.Core.List.{List}
 use Prim.Native.Nat.{ℕ, suc, _-_, _/_, _≤_, _<_}
 use native.Mathlib.Nat.{pos-of-ne-zero}
 use native.Mathlib.Omega.{arith}
-use lib.ListN.{length, take, getD, length-set, length-take}
+use lib.ListN.{length, take, length-set, length-take}
 use borrow.Author.Needs.{needs}
 use Rattle.slots.proofs.Windows.{pow-pos}
 use Rattle.rules.specs.Shares.{Shares}

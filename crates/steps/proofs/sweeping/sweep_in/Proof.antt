@@ -73,7 +73,7 @@ deal-out-requires c κs =
     let w = with-key (c .before .before .before .before .before) (c .before .before .before .open-gap .last .0) (c .before .before .before .open-gap .ensures) in (
       record {
         size = omega (arith, sized-level (s .args .h) (s .args .level) (allowed s) (s .args .counts .now) (win s) (given s));
-        height = given s .height;
+        some = given s .some;
         planned = record {
           lawful = given s .planned .lawful;
           height = given s .planned .height;

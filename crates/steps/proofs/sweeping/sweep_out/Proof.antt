@@ -77,7 +77,7 @@ deal-out-requires c κs =
     let w = with-key (c .before .before .before .before .before) (c .before .before .before .close-gap .last .0) (c .before .before .before .close-gap .ensures) in (
       record {
         size = omega (arith, sized-level (s .args .h) (s .args .level) (allowed s) (s .args .counts .now) (win s) (given s));
-        height = given s .height;
+        some = given s .some;
         planned = record {
           lawful = given s .planned .lawful;
           height = given s .planned .height;

@@ -32,7 +32,7 @@ pub record Modest (t : Tried) : Type 0 where
 abbrev pub nearerOf : Tried → Tried → Tried
 nearerOf a b = if less (fraction b) (fraction a) then b else a
 
--- The first number past the crossing, where the left fraction is above the right one: left/(c − i) > right/(c + i − m) from there on.
+-- The first number from 1 up that is past the crossing: the left fraction is above the right one, left/(c − i) > right/(c + i − m).
 unfoldable pub pastCrossing : (left right c m : ℕ) → ℕ
 pastCrossing left right c m = (right * c + left * m - left * c) / (left + right) + 1
 

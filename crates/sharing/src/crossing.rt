@@ -6,7 +6,7 @@ use crate::Stretch;
 use crate::Tried;
 use crate::trying;
 
-// The first number past the crossing.
+// The first number from 1 up that is past the crossing.
 fn past_crossing(left: usize, right: usize, c: usize, m: usize) -> usize
     requires { ⌜ (left ≤ 300) × (right ≤ 300) × (0 < left + right) × (c ≤ 2048) × (m ≤ 4096) ⌝ }
     ensures { λ r. ⌜ (r ≡ pastCrossing left right c m) × (1 ≤ r) ⌝ }

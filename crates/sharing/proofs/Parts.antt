@@ -8,19 +8,18 @@ use native.Mathlib.Decide.{decLt}
 use native.Mathlib.Numerals.{add-one}
 use native.Mathlib.Omega.{arith}
 use lib.Dec.{ltb}
-use lib.ListN.{length, take, drop, getD, take-append-drop}
+use lib.ListN.{length, take, drop, getD}
 use lib.Seq.{take-length}
 use borrow.Author.Tests.{lt-ltb, le-ltb}
 use Rattle.lists.specs.Choice.{if_then_else_}
 use Rattle.lists.specs.Lists.{total}
 use Rattle.lists.proofs.Members.{at-mem}
-use Rattle.lists.proofs.Joined.{total-append}
 use Rattle.sharing.specs.declared.Part.{Part}
 use Rattle.sharing.specs.declared.Passed.{Passed}
 use Rattle.sharing.specs.Marks.{Marked}
 use Rattle.sharing.specs.Parts.{weightsIn, PartOf, PassedTo, wholeOf, leftOf, rightOf}
 use Rattle.sharing.proofs.NextMark.{next, next-in, next-from, next-hit, next-all, next-grows, next-stays, next-on}
-use Rattle.sharing.proofs.Weighing.{total-marks, total-one, total-small, total-stretch, first-part, other-part, length-stretch}
+use Rattle.sharing.proofs.Weighing.{total-marks, total-one, total-small, total-two, total-stretch, first-part, other-part, length-stretch}
 
 -- all of a window
 pub whole-part : (ws at weights : List ℕ) (front : ℕ) → Marked ws at weights → length ws ≤ 4096 → front ≤ 12
@@ -87,15 +86,12 @@ module _ (ws at weights : List ℕ) (p : Part) (d : PartOf ws at weights p) wher
       is-counted s = omega (arith, same-marks weights e, stretch i h)
 
   module _ (i : ℕ) (h : i ≤ p .keys) (r : Passed) (g : PassedTo ws at p i r) where
-    two-sums : total (weightsIn ws p) ≡ total (take i (weightsIn ws p)) + total (drop i (weightsIn ws p))
-    two-sums = ap total (sym (take-append-drop i (weightsIn ws p))) ∙ total-append (take i (weightsIn ws p)) (drop i (weightsIn ws p))
-
     -- what is passed is no more than all, and the rest is on the right
     pub left-small : r .left ≤ p .all
-    left-small = omega (arith, two-sums)
+    left-small = omega (arith, total-two (weightsIn ws p) i)
 
     pub right-is : p .all - r .left ≡ total (drop i (weightsIn ws p))
-    right-is = omega (arith, two-sums)
+    right-is = omega (arith, total-two (weightsIn ws p) i)
 
     -- the halves
     pub left-part : PartOf ws at weights (leftOf p i r)

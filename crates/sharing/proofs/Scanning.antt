@@ -6,10 +6,9 @@ use Prim.Native.Nat.{ℕ, suc, _+_, _-_, _≤_, _<_, min}
 use native.Mathlib.Nat.{mul-pos, sub-self}
 use native.Mathlib.Omega.{arith}
 use lib.Dec.{ltb}
-use lib.ListN.{length, take, drop, getD, take-append-drop}
+use lib.ListN.{length, take, drop, getD}
 use Rattle.lists.specs.Choice.{if_then_else_}
 use Rattle.lists.specs.Lists.{total}
-use Rattle.lists.proofs.Joined.{total-append}
 use Rattle.rules.specs.SharingOut.{Fraction, distance, formula6, least}
 use Rattle.sharing.specs.declared.Part.{Part}
 use Rattle.sharing.specs.declared.Passed.{Passed}
@@ -18,14 +17,14 @@ use Rattle.sharing.specs.declared.Tried.{Tried}
 use Rattle.sharing.specs.Parts.{weightsIn, PartOf, PassedTo}
 use Rattle.sharing.specs.Tries.{Halves, Weighted, nearestOf}
 use Rattle.sharing.proofs.Looks.{none, bestOf, best-is, stretch-is}
+use Rattle.sharing.proofs.Weighing.{total-two}
 use Rattle.sharing.proofs.Parts.{length-in, all-small, left-small, reach-from, reach-to, flat, mark-there, passed-on}
 
 -- what is left of all is right
 six-is : (c front : ℕ) (vs : List ℕ) (left all j m : ℕ) → length vs ≡ m → left ≡ front + total (take j vs) → all ≡ front + total vs
     → formula6 c front vs j ≡ distance left (c - j) (all - left) (c + j - m)
 six-is c front vs left all j m e p q =
-    let parts : total (take j vs) + total (drop j vs) ≡ total vs = sym (total-append (take j vs) (drop j vs)) ∙ ap total (take-append-drop j vs) in
-    let r : all - left ≡ total (drop j vs) = omega arith in
+    let r : all - left ≡ total (drop j vs) = omega (arith, total-two vs j) in
     rw (r, p, ← e)
 
 -- Before number i: the marks up to it are passed, and the best below it is found.

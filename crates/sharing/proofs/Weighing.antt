@@ -5,7 +5,7 @@ use Prim.Native.Nat.{ℕ, zero, suc, _+_, _-_, _*_, _≤_, _<_}
 use native.Mathlib.Nat.{zero-add, suc-add, add-sub-of-le}
 use native.Mathlib.Decide.{decLt}
 use native.Mathlib.Omega.{arith}
-use lib.ListN.{length, take, drop, getD, length-take, length-drop}
+use lib.ListN.{length, take, drop, getD, take-append-drop, length-take, length-drop}
 use lib.Seq.{take-add, take-suc, take-take, drop-drop, take-nil}
 use borrow.Author.Tests.{lt-ltb, le-ltb, le-leb, lt-leb}
 use Rattle.lists.specs.Lists.{All, total}
@@ -48,6 +48,9 @@ drop-take (suc i) n [] = ap (drop (suc i)) (take-nil (suc i + n)) ∙ sym (take-
 drop-take (suc i) n (x ∷ l) = ap (λ (k : ℕ). drop (suc i) (take k (x ∷ l))) (suc-add i n) ∙ drop-take i n l
 
 module _ (ws : List ℕ) where
+  pub total-two : (i : ℕ) → total ws ≡ total (take i ws) + total (drop i ws)
+  total-two i = ap total (sym (take-append-drop i ws)) ∙ total-append (take i ws) (drop i ws)
+
   pub total-stretch : (a n : ℕ) → total (take (a + n) ws) ≡ total (take a ws) + total (take n (drop a ws))
   total-stretch a n = ap total (take-add a n ws) ∙ total-append (take a ws) (take n (drop a ws))
 

@@ -2,7 +2,7 @@
 use mathlib.Core.Path.{_≡_, refl, sym, ap, ap₂, _∙_}
 use mathlib.Core.Bool.{Bool, true, false}
 use Prim.Native.Nat.{ℕ, zero, suc, _+_, _-_, _*_, _≤_, _<_, max, min}
-use native.Mathlib.Nat.{add-zero, le-refl, le-of-lt, mul-le-mul-right, mul-lt-mul-of-pos-right, lt-of-mul-lt-mul-right, le-of-mul-le-mul-right}
+use native.Mathlib.Nat.{add-zero, add-sub-of-le, le-refl, le-of-lt, mul-le-mul-right, mul-lt-mul-of-pos-right, lt-of-mul-lt-mul-right, le-of-mul-le-mul-right}
 use native.Mathlib.Decide.{decLt}
 use native.Mathlib.Omega.{arith}
 use borrow.Author.Tests.{lt-ltb, le-ltb, ltb-true, ltb-false}
@@ -141,18 +141,15 @@ module _ (d : ℕ → Fraction) (first c m : ℕ) (s : Stretch) (w : Weighted s)
   abbrev Enough : Type 0
   Enough = nearestOf (best (s .first)) s c m ≡ best (s .last + 1)
 
-  upto : (i : ℕ) → i ≤ s .last → i + (s .last - i) ≡ s .last
-  upto i p = omega arith
-
   before : s .last < past → Enough
   before p =
       one (s .last) (omega arith) (omega arith)
-      ∙ sym (rw (upto (s .first) (h .some)) at (falling (s .last - s .first) (omega arith) (omega arith)))
+      ∙ sym (rw (add-sub-of-le (h .some)) at (falling (s .last - s .first) (omega arith) (omega arith)))
 
   after : past ≤ s .first → Enough
   after p =
       one (s .first) (omega arith) (omega arith)
-      ∙ sym (rw (upto (s .first) (h .some)) at (rising (s .first) (s .last - s .first) (omega arith) (omega arith) p))
+      ∙ sym (rw (add-sub-of-le (h .some)) at (rising (s .first) (s .last - s .first) (omega arith) (omega arith) p))
 
   round : s .first < past → past ≤ s .last → Enough
   round p q =
@@ -160,7 +157,7 @@ module _ (d : ℕ → Fraction) (first c m : ℕ) (s : Stretch) (w : Weighted s)
       let f : past - 1 + 1 ≡ past = omega arith in
       two p q
       ∙ ap (λ (b : Tried). nearerOf b (look past)) (sym (rw (e, f) at (falling (past - 1 - s .first) (omega arith) (omega arith))))
-      ∙ sym (rw (upto past q) at (rising past (s .last - past) (omega arith) (omega arith) (le-refl past)))
+      ∙ sym (rw (add-sub-of-le q) at (rising past (s .last - past) (omega arith) (omega arith) (le-refl past)))
 
   enough : Enough
   enough = elim (decLt (s .first) past) [

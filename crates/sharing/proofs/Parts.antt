@@ -7,19 +7,18 @@ use native.Mathlib.Nat.{zero-add}
 use native.Mathlib.Decide.{decLt}
 use native.Mathlib.Numerals.{add-one}
 use native.Mathlib.Omega.{arith}
-use lib.Dec.{ltb}
 use lib.ListN.{length, take, drop, getD}
 use lib.Seq.{take-length}
 use borrow.Author.Tests.{lt-ltb, le-ltb}
-use Rattle.lists.specs.Choice.{if_then_else_}
 use Rattle.lists.specs.Lists.{total}
 use Rattle.lists.proofs.Members.{at-mem}
+use Rattle.moves.proofs.Packing.{total-suc}
 use Rattle.sharing.specs.declared.Part.{Part}
 use Rattle.sharing.specs.declared.Passed.{Passed}
 use Rattle.sharing.specs.Marks.{Marked}
-use Rattle.sharing.specs.Parts.{weightsIn, PartOf, PassedTo, wholeOf, leftOf, rightOf}
+use Rattle.sharing.specs.Parts.{weightsIn, PartOf, PassedTo, reachOf, wholeOf, leftOf, rightOf}
 use Rattle.sharing.proofs.NextMark.{next, next-in, next-from, next-hit, next-all, next-grows, next-stays, next-on}
-use Rattle.sharing.proofs.Weighing.{total-marks, total-one, total-small, total-two, total-stretch, first-part, other-part, length-stretch}
+use Rattle.sharing.proofs.Weighing.{total-marks, total-small, total-two, total-stretch, first-part, other-part, length-stretch}
 
 -- all of a window
 pub whole-part : (ws at weights : List ℕ) (front : ℕ) → Marked ws at weights → length ws ≤ 4096 → front ≤ 12
@@ -51,7 +50,7 @@ Counted weights was r = r .left + total (take (was .next) weights) ≡ was .left
 pub counted-one : (weights : List ℕ) (was r r′ : Passed) → r .next < length weights → r′ .next ≡ r .next + 1 → r′ .left ≡ r .left + getD weights (r .next) 0
     → Counted weights was r → Counted weights was r′
 counted-one weights was r r′ h a b e =
-    omega (arith, total-one weights (r .next) h, same-marks weights (a ∙ add-one (r .next)))
+    omega (arith, total-suc weights (r .next) h, same-marks weights (a ∙ add-one (r .next)))
 
 module _ (ws at weights : List ℕ) (p : Part) (d : PartOf ws at weights p) where
   pub length-in : length (weightsIn ws p) ≡ p .keys
@@ -90,7 +89,7 @@ module _ (ws at weights : List ℕ) (p : Part) (d : PartOf ws at weights p) wher
     pub left-small : r .left ≤ p .all
     left-small = omega (arith, total-two (weightsIn ws p) i)
 
-    pub right-is : p .all - r .left ≡ total (drop i (weightsIn ws p))
+    right-is : p .all - r .left ≡ total (drop i (weightsIn ws p))
     right-is = omega (arith, total-two (weightsIn ws p) i)
 
     -- the halves
@@ -129,7 +128,7 @@ module _ (ws at weights : List ℕ) (p : Part) (d : PartOf ws at weights p) wher
         (l, omega (arith, past l))
 
     -- the numbers of keys from i to e, before the next mark: the weights stay
-    module _ (last e : ℕ) (k : i ≤ last) (l : last ≤ p .keys) (q : e ≡ (if ltb (r .next) (p .to) then min last (getD at (r .next) 0 - p .place) else last)) where
+    module _ (last e : ℕ) (k : i ≤ last) (l : last ≤ p .keys) (q : e ≡ reachOf at p (r .next) last) where
       -- they end at the part's next mark, or there is none
       ends : ((r .next < length at) × (p .place + i ≤ getD at (r .next) 0) × (e ≡ min last (getD at (r .next) 0 - p .place))) ⊎ ((p .to ≤ r .next) × (e ≡ last))
       ends =

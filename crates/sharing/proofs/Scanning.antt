@@ -2,19 +2,17 @@
 use mathlib.Core.Path.{_≡_, sym, ap, _∙_}
 use mathlib.Core.Logic.{_≢_}
 use mathlib.Core.List.{List}
-use Prim.Native.Nat.{ℕ, suc, _+_, _-_, _≤_, _<_, min}
+use Prim.Native.Nat.{ℕ, suc, _+_, _-_, _≤_, _<_}
 use native.Mathlib.Nat.{mul-pos, sub-self}
 use native.Mathlib.Omega.{arith}
-use lib.Dec.{ltb}
 use lib.ListN.{length, take, drop, getD}
-use Rattle.lists.specs.Choice.{if_then_else_}
 use Rattle.lists.specs.Lists.{total}
 use Rattle.rules.specs.SharingOut.{Fraction, distance, formula6, least}
 use Rattle.sharing.specs.declared.Part.{Part}
 use Rattle.sharing.specs.declared.Passed.{Passed}
 use Rattle.sharing.specs.declared.Stretch.{Stretch}
 use Rattle.sharing.specs.declared.Tried.{Tried}
-use Rattle.sharing.specs.Parts.{weightsIn, PartOf, PassedTo}
+use Rattle.sharing.specs.Parts.{weightsIn, PartOf, PassedTo, reachOf}
 use Rattle.sharing.specs.Tries.{Halves, Weighted, nearestOf}
 use Rattle.sharing.proofs.Looks.{none, bestOf, best-is, stretch-is}
 use Rattle.sharing.proofs.Weighing.{total-two}
@@ -55,7 +53,7 @@ module _ (c first last : ℕ) (ws at weights : List ℕ) (p : Part) (h : Halves 
     pub on : e ≢ last → (r′ : Passed) → r′ .next ≡ r .next + 1 → r′ .left ≡ r .left + getD weights (r .next) 0 → PassedTo ws at p (e + 1) r′
 
   module _ (some : 0 < p .all) (i e : ℕ) (r : Passed) (found : Tried) (from : first ≤ i) (to : i ≤ last) (b : Scanned c first ws at p i r found)
-      (q : e ≡ (if ltb (r .next) (p .to) then min last (getD at (r .next) 0 - p .place) else last)) where
+      (q : e ≡ reachOf at p (r .next) last) where
     short : i ≤ p .keys
     short = omega (arith, h .inside)
 

@@ -1,12 +1,12 @@
--- What a window weighs, by its marks: the weights up to the next one, and the stretches of a window.
+-- What a window weighs, by its marks: the weights up to the next one, and parts of a window's keys.
 use mathlib.Core.Path.{_≡_, refl, sym, ap, _∙_}
 use mathlib.Core.List.{List, [], _∷_, List·Memᴰ·head as here, List·Memᴰ·tail as there}
 use Prim.Native.Nat.{ℕ, zero, suc, _+_, _-_, _*_, _≤_, _<_}
 use native.Mathlib.Nat.{zero-add, suc-add, add-sub-of-le}
 use native.Mathlib.Decide.{decLt}
 use native.Mathlib.Omega.{arith}
-use lib.ListN.{length, take, drop, getD, take-append-drop, length-take, length-drop}
-use lib.Seq.{take-add, take-suc, take-take, drop-drop, take-nil}
+use lib.ListN.{length, take, drop, take-append-drop, length-take, length-drop}
+use lib.Seq.{take-add, take-take, drop-drop, take-nil}
 use borrow.Author.Tests.{lt-ltb, le-ltb, le-leb, lt-leb}
 use Rattle.lists.specs.Lists.{All, total}
 use Rattle.lists.proofs.Joined.{total-append}
@@ -33,15 +33,12 @@ below-next x (q ∷ qs) (w ∷ ws) r e =
 pub total-marks : (ws at weights : List ℕ) → Marked ws at weights → (x : ℕ) → total (take x ws) ≡ total (take (next at x) weights)
 total-marks ws at weights d x = d .totals x ∙ below-next x at weights (d .rising) (d .same)
 
-pub total-one : (weights : List ℕ) (k : ℕ) → k < length weights → total (take (suc k) weights) ≡ total (take k weights) + getD weights k 0
-total-one weights k h = rw (take-suc weights k 0 h, total-append) (omega arith)
-
 pub total-small : (k : ℕ) (weights : List ℕ) → All (λ w. w ≤ 12) weights → total (take k weights) ≤ 12 * length weights
 total-small zero weights h = omega arith
 total-small (suc k) [] h = omega arith
 total-small (suc k) (w ∷ ws) h = omega (arith, h w (here refl), total-small k ws (λ v m. h v (there m)))
 
--- STRETCHES
+-- PARTS OF THE KEYS
 drop-take : {A : Type 0} (i n : ℕ) (l : List A) → drop i (take (i + n) l) ≡ take n (drop i l)
 drop-take zero n l = ap (λ (k : ℕ). take k l) (zero-add n)
 drop-take (suc i) n [] = ap (drop (suc i)) (take-nil (suc i + n)) ∙ sym (take-nil n)

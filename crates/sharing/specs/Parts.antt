@@ -1,9 +1,10 @@
 -- A part of a packed window with the marks in it, its marks passed up to one of its keys, and its two halves.
-use Prim.Native.Nat.{ℕ, _+_, _-_, _≤_}
+use Prim.Native.Nat.{ℕ, _+_, _-_, _≤_, min}
 use mathlib.Core.Path.{_≡_}
 use mathlib.Core.List.{List}
-use lib.Dec.{leb}
-use lib.ListN.{length, take, drop}
+use lib.Dec.{leb, ltb}
+use lib.ListN.{length, take, drop, getD}
+use Rattle.lists.specs.Choice.{if_then_else_}
 use Rattle.lists.specs.Lists.{total}
 use Rattle.lists.specs.Search.{placeBy}
 use Rattle.sharing.specs.declared.Part.{Part}
@@ -24,10 +25,14 @@ pub record PartOf (ws at weights : List ℕ) (p : Part) : Type 0 where
   pub front : p .front ≤ 12
   pub all : p .all ≡ p .front + total (weightsIn ws p)
 
--- The marks on its first i keys are passed: the next one, and what those weigh with the front.
+-- The marks on the first i keys of p are passed: r has the next one, and what those weigh with the front.
 pub record PassedTo (ws at : List ℕ) (p : Part) (i : ℕ) (r : Passed) : Type 0 where
   pub next : r .next ≡ placeBy (leb (p .place + i)) at
   pub left : r .left ≡ p .front + total (take i (weightsIn ws p))
+
+-- How far the numbers of keys go on before mark `next` of the part, at most to last.
+abbrev pub reachOf : List ℕ → Part → ℕ → ℕ → ℕ
+reachOf at p next last = if ltb next (p .to) then min last (getD at next 0 - p .place) else last
 
 -- All m keys of a window with these marks' weights, and the front's f.
 abbrev pub wholeOf : List ℕ → ℕ → ℕ → Part

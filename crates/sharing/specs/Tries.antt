@@ -36,7 +36,7 @@ nearerOf a b = if less (fraction b) (fraction a) then b else a
 unfoldable pub pastCrossing : (left right c m : ℕ) → ℕ
 pastCrossing left right c m = (right * c + left * m - left * c) / (left + right) + 1
 
--- Weights that stay all along a stretch of numbers, and are not both 0.
+-- The weights left and right of a stretch are small, and not both 0.
 pub record Weighted (s : Stretch) : Type 0 where
   pub left : s .left ≤ 300
   pub right : s .right ≤ 300
@@ -46,7 +46,8 @@ pub record Weighted (s : Stretch) : Type 0 where
 abbrev pub triedIn : Stretch → (c m i : ℕ) → Tried
 triedIn s c m i = triedWith (s .left) (s .right) c m (max (s .first) (min i (s .last)))
 
--- The nearest of what was found before and the two numbers of a stretch round the crossing, the last before it and the first past it.
+-- The nearest of what was found before and the two numbers of a stretch round the crossing: the last that is not past it and the first past it,
+-- or the end of the stretch that is nearest.
 unfoldable pub nearestOf : Tried → Stretch → (c m : ℕ) → Tried
 nearestOf found s c m =
     let past : ℕ = pastCrossing (s .left) (s .right) c m in

@@ -1,12 +1,11 @@
 // The marks passed one after the other, and how far a stretch without a mark reaches.
 ghost use mathlib.Core.Path.{_≡_};
-ghost use Prim.Native.Nat.{ℕ, _+_, _-_, _≤_, _<_, min};
+ghost use Prim.Native.Nat.{ℕ, _+_, _≤_, _<_};
 ghost use mathlib.Core.List.{List};
-ghost use lib.Dec.{leb, ltb};
+ghost use lib.Dec.{leb};
 ghost use lib.ListN.{length, take, getD};
-ghost use Rattle.lists.specs.Choice.{if_then_else_};
 ghost use Rattle.lists.specs.Search.{placeBy};
-ghost use Rattle.sharing.specs.Parts.{PartOf, PassedTo};
+ghost use Rattle.sharing.specs.Parts.{PartOf, PassedTo, reachOf};
 use crate::Part;
 use crate::Passed;
 use crate::trying;
@@ -64,7 +63,7 @@ pub fn pass(at: &[usize], weights: &[usize], part: Part, i: usize) -> Passed
 // How far the numbers of keys go on before the next mark, at most to `last`: a mark weighs on the left once its key is taken.
 pub fn reach(at: &[usize], part: Part, next: usize, last: usize) -> usize
     requires { ⌜ (next < part .to → (next < length (now at)) × (part .place ≤ getD (now at) next 0)) ⌝ }
-    ensures { λ r. ⌜ r ≡ (if ltb next (part .to) then min last (getD (now (at .entry)) next 0 - part .place) else last) ⌝ }
+    ensures { λ r. ⌜ r ≡ reachOf (now (at .entry)) part next last ⌝ }
 {
     if next < part.to {
         return trying::smaller(last, at[next] - part.place);

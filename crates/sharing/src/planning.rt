@@ -73,7 +73,7 @@ pub fn split(
     scan(at, weights, part, 64 * half, first, last)
 }
 
-// The number of keys of each segment of a part of this level. The rows have a share for each level.
+// How many of a part's keys each segment of its window, which is of this level, gets: into `counts`. The rows have a share for each level.
 pub fn plan_window(
     at: &[usize],
     weights: &[usize],

@@ -8,7 +8,8 @@ use lib.ListN.{length, take}
 use lib.Seq.{take-all}
 use Rattle.lists.specs.Lists.{total}
 use Rattle.lists.proofs.Members.{at-mem}
-use Rattle.sharing.proofs.Weighing.{total-one, total-small}
+use Rattle.moves.proofs.Packing.{total-suc}
+use Rattle.sharing.proofs.Weighing.{total-small}
 use Rattle.sharing.proofs.parting.whole.Statement.{statement}
 use Rattle.sharing.proofs.parting.whole.Tie as tie
 
@@ -43,7 +44,7 @@ loop-again : tie.Need-loop-again Inv-loop μ-loop
 loop-again c =
     let L = c .before .before .loop in
     let W = c .before .before .before .args .weights .now in
-    (omega arith, rw (add-one (L .k)) (omega (arith, total-one W (L .k) (omega arith))))
+    (omega arith, rw (add-one (L .k)) (omega (arith, total-suc W (L .k) (omega arith))))
 
 returns : tie.Need-returns Inv-loop μ-loop
 returns c =

@@ -89,7 +89,7 @@ shared-slice-read-if2 c = inside (c .before .before .before .before .before .bef
 returns : tie.Need-returns Inv-loop μ-loop
 returns c =
     let L = c .before .before .before .before in
-    hit (L .before .before .before .before) (L .loop .p) (L .loop .inv) (c .if2 .taken)
+    hit (L .before .before .before .before) (L .loop .p) (L .loop .inv) (omega (arith, c .if2 .taken))
 
 pass-one-requires : tie.Need-pass-one-requires Inv-loop μ-loop
 pass-one-requires c κs =

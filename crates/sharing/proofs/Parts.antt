@@ -57,8 +57,8 @@ module _ (ws at weights : List ℕ) (p : Part) (d : PartOf ws at weights p) wher
   length-in = length-stretch ws (p .place) (p .keys) (d .inside)
 
   -- its first i keys weigh what the marks on them weigh
-  stretch : (i : ℕ) → i ≤ p .keys → total (take (next at (p .place + i)) weights) ≡ total (take (p .from) weights) + total (take i (weightsIn ws p))
-  stretch i h =
+  by-marks : (i : ℕ) → i ≤ p .keys → total (take (next at (p .place + i)) weights) ≡ total (take (p .from) weights) + total (take i (weightsIn ws p))
+  by-marks i h =
       let sum : (x : ℕ) → total (take x ws) ≡ total (take (next at x) weights) = total-marks ws at weights (d .marked) in
       let part : total (take i (weightsIn ws p)) ≡ total (take i (drop (p .place) ws)) = ap total (first-part ws (p .place) (p .keys) i h) in
       omega (arith, sum (p .place), sum (p .place + i), total-stretch ws (p .place) i, same-marks weights (d .from))
@@ -69,7 +69,7 @@ module _ (ws at weights : List ℕ) (p : Part) (d : PartOf ws at weights p) wher
 
   pub all-small : p .all ≤ 156
   all-small =
-      omega (arith, stretch (p .keys) (omega arith), ap total (first-part ws (p .place) (p .keys) (p .keys) (omega arith)), marks-small (next at (p .place + p .keys)))
+      omega (arith, by-marks (p .keys) (omega arith), ap total (first-part ws (p .place) (p .keys) (p .keys) (omega arith)), marks-small (next at (p .place + p .keys)))
 
   module _ (i : ℕ) (h : i ≤ p .keys) where
     -- the marks on its first i keys end where its marks end, or before
@@ -79,10 +79,10 @@ module _ (ws at weights : List ℕ) (p : Part) (d : PartOf ws at weights p) wher
     -- they are passed when the next one is that after them, and their weights are counted
     module _ (r : Passed) (e : r .next ≡ next at (p .place + i)) where
       pub passed-is : Counted weights (start p) r → PassedTo ws at p i r
-      passed-is s = record { next = e; left = omega (arith, same-marks weights e, stretch i h) }
+      passed-is s = record { next = e; left = omega (arith, same-marks weights e, by-marks i h) }
 
       is-counted : r .left ≡ p .front + total (take i (weightsIn ws p)) → Counted weights (start p) r
-      is-counted s = omega (arith, same-marks weights e, stretch i h)
+      is-counted s = omega (arith, same-marks weights e, by-marks i h)
 
   module _ (i : ℕ) (h : i ≤ p .keys) (r : Passed) (g : PassedTo ws at p i r) where
     -- what is passed is no more than all, and the rest is on the right
@@ -152,7 +152,7 @@ module _ (ws at weights : List ℕ) (p : Part) (d : PartOf ws at weights p) wher
           ]
 
       pub flat : (j : ℕ) → i ≤ j → j ≤ e → total (take j (weightsIn ws p)) ≡ total (take i (weightsIn ws p))
-      flat j a b = omega (arith, stretch i h, stretch j (omega (arith, reach-to)), same-marks weights (stays j a b ∙ g .next))
+      flat j a b = omega (arith, by-marks i h, by-marks j (omega (arith, reach-to)), same-marks weights (stays j a b ∙ g .next))
 
       -- where they end before the last, a mark stands, and it is passed
       module _ (n : e ≢ last) where

@@ -8,10 +8,8 @@ ghost use Rattle.slots.specs.Keys.{segmentOf};
 ghost use Rattle.slots.specs.Shown.{Shows};
 ghost use Rattle.forecast.specs.Cells.{usedCells, weight};
 ghost use Rattle.forecast.specs.Steps.{tailed, noted, dropped, retargeted};
-ghost use Rattle.forecast.specs.Faults.{faultOf};
 ghost use Rattle.forecast.specs.Tidy.{Tidy, Became, Marker, Live};
 
-pub mod checking;
 pub mod row;
 
 // A marker is a live key, or 0 for the front of the list.
@@ -161,33 +159,6 @@ impl Forecast {
             i += 1;
         }
         self
-    }
-
-    // The first fault from the head. Of any forecast; the list is one that passed refusals 1 to 3.
-    pub fn fault(self, p: usize, list: &[u64]) -> Fault
-        ensures { λ r. ⌜ ((ss : Segments) → Shows ss (now (list .entry)) → 64 ≤ length (now (list .entry)) → r ≡ faultOf p ss self) ⌝ }
-    {
-        if list.len() < 64 {
-            return Fault::Sound;
-        }
-        let used = self.used;
-        if p < used {
-            return Fault::TooMany;
-        }
-        let mut i: usize = 0;
-        while i < 12 {
-            let cell = Cell {
-                marker: self.markers[i],
-                segment: row::wide(self.segments[i]),
-                count: row::wide(self.counts[i]),
-            };
-            let fault = checking::fault_at(cell, i, used, &self.markers, p, list);
-            if !checking::is_sound(fault) {
-                return fault;
-            }
-            i += 1;
-        }
-        Fault::Sound
     }
 }
 

@@ -8,14 +8,16 @@ use mathlib.Core.List.{List, [], _∷_}
 use lib.ListN.{length, drop, set}
 use Rattle.lists.proofs.Tests.{nor}
 use Rattle.forecast.specs.declared.Forecast.{Forecast}
+use Rattle.rules.specs.declared.Request.{Request}
+use Rattle.rules.specs.declared.Request.the-variants.{Insert, Delete}
+use Rattle.rules.specs.Placing.{Answer}
 use Rattle.rules.specs.Calls as rules
 use Rattle.list.specs.declared.InsertReply.{InsertReply}
 use Rattle.list.specs.declared.DeleteReply.{DeleteReply}
 use Rattle.list.specs.Admits.{InsertAdmits, DeleteAdmits}
 use Rattle.list.specs.Answers.{insertPaper, deletePaper}
-use Rattle.rules.specs.Placing.{Answer}
-use Rattle.rules.specs.Runs.{one}
-use Rattle.rules.specs.declared.Request.the-variants.{Insert, Delete}
+use Rattle.telling.specs.declared.Told.{Told}
+use Rattle.telling.specs.Told.{answerWords}
 use Rattle.words.specs.Words.{forecastIn, forecastWords, saturated}
 use Rattle.words.proofs.WordLaws.{words-again, forecastIn-roomy}
 use Rattle.words.proofs.Called.{request-same}
@@ -23,56 +25,62 @@ use Rattle.host.specs.Calls.{insert, delete, notForecast, short, Gives}
 use Rattle.host.proofs.Over.{over-one, over-two}
 use Rattle.host.proofs.Sized.{is-forecast, is-long, misfit, fitted}
 
+-- A REQUEST on the forecast that the words show: its answer as words, the slots left, and the words left. They are the same where the request
+-- is done, and where it is refused those lent are left.
+module _ (q : Request) (list forecast : List ℕ) where
+  abbrev C : rules.Called
+  C = rules.request q list (forecastIn forecast)
+
+  record Asked (t : Told) (list' forecast' : List ℕ) : Type 0 where
+    answer : t ≡ answerWords (C .answer)
+    slots : list' ≡ C .slots
+    words : forecast' ≡ forecastWords (C .forecast)
+
+  asked : (F G : Forecast) (a : Answer) (t : Told) (list' forecast' : List ℕ) → length forecast ≡ 37 → F ≡ saturated (forecastIn forecast) → t ≡ answerWords a
+      → a ≡ rules.request q list F .answer → G ≡ rules.request q list F .forecast → list' ≡ rules.request q list F .slots
+      → ((t .number ≡ 0) × (forecast' ≡ forecastWords G)) ⊎ ((t .number ≢ 0) × (forecast' ≡ forecast)) → Asked t list' forecast'
+  asked F G a t list' forecast' l f e ea eg es w =
+      let is : rules.request q list F ≡ rules.request q list (saturated (forecastIn forecast)) = ap (rules.request q list) f in
+      let same = request-same q list (forecastIn forecast) (forecastIn-roomy forecast) in
+      let answer = e ∙ ap answerWords (ea ∙ ap (λ (c : rules.Called). c .answer) is ∙ same .answer) in
+      let number : t .number ≡ C .answer .number = ap (λ (x : Told). x .number) answer in
+      record {
+        answer = answer;
+        slots = es ∙ ap (λ (c : rules.Called). c .slots) is ∙ same .slots;
+        words = elim w [
+          | inl d ↦ d .1 ∙ ap forecastWords (eg ∙ ap (λ (c : rules.Called). c .forecast) is ∙ same .done (sym number ∙ d .0))
+          | inr d ↦ d .1 ∙ sym (ap forecastWords (same .left (λ z. d .0 (number ∙ z))) ∙ words-again forecast l)
+        ];
+      }
+
 module _ (list forecast : List ℕ) (key : ℕ) (reply : List ℕ) where
   pub insert-misfit : T (notForecast forecast || short reply 1) → Gives (insert list forecast key reply) 100 (list ∷ forecast ∷ reply ∷ [])
   unfolding insert
   insert-misfit e = misfit (notForecast forecast || short reply 1) _ _ e
 
-  -- the words written are the same where the insert is done, and where it is refused those lent are left
-  pub insert-given : (F : Forecast) (r : InsertReply) (n m : ℕ) (list' forecast' : List ℕ) → length forecast ≡ 37 → 1 ≤ length reply → F ≡ saturated (forecastIn forecast)
-      → InsertAdmits list F key r list' → ((n ≡ 0) × (forecast' ≡ forecastWords (r .forecast))) ⊎ ((n ≢ 0) × (forecast' ≡ forecast))
-      → n ≡ insertPaper (r .answer) .number → m ≡ insertPaper (r .answer) .moves
-      → Gives (insert list forecast key reply) n (list' ∷ forecast' ∷ set reply 0 m ∷ [])
+  -- n is the number returned
+  pub insert-given : (F : Forecast) (r : InsertReply) (t : Told) (n : ℕ) (list' forecast' : List ℕ) → length forecast ≡ 37 → 1 ≤ length reply
+      → F ≡ saturated (forecastIn forecast) → InsertAdmits list F key r list' → t ≡ answerWords (insertPaper (r .answer)) → n ≡ t .number
+      → ((t .number ≡ 0) × (forecast' ≡ forecastWords (r .forecast))) ⊎ ((t .number ≢ 0) × (forecast' ≡ forecast))
+      → Gives (insert list forecast key reply) n (list' ∷ forecast' ∷ set reply 0 (t .first) ∷ [])
   unfolding insert
-  insert-given F r n m list' forecast' l l1 f a w en em =
-      let is : rules.insert list F key ≡ rules.insert list (saturated (forecastIn forecast)) key = ap (λ (G : Forecast). rules.insert list G key) f in
-      let same = request-same (Insert key) list (forecastIn forecast) (forecastIn-roomy forecast) in
-      let answer = a .answer ∙ ap (λ (c : rules.Called). c .answer) is ∙ same .answer in
-      let number = en ∙ ap (λ (x : Answer). x .number) answer in
-      let slots = a .slots-left ∙ ap (λ (c : rules.Called). c .slots) is ∙ same .slots in
-      let words : forecast' ≡ forecastWords (rules.insert list (forecastIn forecast) key .forecast) =
-      elim w [
-        | inl d ↦ d .1 ∙ ap forecastWords (a .forecast ∙ ap (λ (c : rules.Called). c .forecast) is ∙ same .done (sym number ∙ d .0))
-        | inr d ↦ d .1 ∙ sym (ap forecastWords (same .left (λ z. d .0 (number ∙ z))) ∙ words-again forecast l)
-      ] in
-      let moves = em ∙ ap (λ (x : Answer). x .moves) answer in
-      let said = over-one reply m l1 ∙ (λ i. moves i ∷ drop 1 reply) in
+  insert-given F r t n list' forecast' l l1 f a e en w =
+      let k = asked (Insert key) list forecast F (r .forecast) _ t list' forecast' l f e (a .answer) (a .forecast) (a .slots-left) w in
+      let said = over-one reply (t .first) l1 ∙ ap (λ (x : Told). x .first ∷ drop 1 reply) (k .answer) in
       fitted (notForecast forecast || short reply 1) _ _ _ _ (nor (notForecast forecast) (short reply 1) (is-forecast forecast l) (is-long reply 1 l1))
-      (record { number = number; slices = λ i. slots i ∷ words i ∷ said i ∷ [] })
+      (record { number = en ∙ ap (λ (x : Told). x .number) (k .answer); slices = λ i. k .slots i ∷ k .words i ∷ said i ∷ [] })
 
   pub delete-misfit : T (notForecast forecast || short reply 2) → Gives (delete list forecast key reply) 100 (list ∷ forecast ∷ reply ∷ [])
   unfolding delete
   delete-misfit e = misfit (notForecast forecast || short reply 2) _ _ e
 
-  -- the words written are the same where the delete is done, and where it is refused those lent are left
-  pub delete-given : (F : Forecast) (r : DeleteReply) (n m p : ℕ) (list' forecast' : List ℕ) → length forecast ≡ 37 → 2 ≤ length reply → F ≡ saturated (forecastIn forecast)
-      → DeleteAdmits list F key r list' → ((n ≡ 0) × (forecast' ≡ forecastWords (r .forecast))) ⊎ ((n ≢ 0) × (forecast' ≡ forecast))
-      → n ≡ deletePaper (r .answer) .number → m ≡ deletePaper (r .answer) .moves → p ≡ one (deletePaper (r .answer) .sparse)
-      → Gives (delete list forecast key reply) n (list' ∷ forecast' ∷ set (set reply 0 m) 1 p ∷ [])
+  pub delete-given : (F : Forecast) (r : DeleteReply) (t : Told) (n : ℕ) (list' forecast' : List ℕ) → length forecast ≡ 37 → 2 ≤ length reply
+      → F ≡ saturated (forecastIn forecast) → DeleteAdmits list F key r list' → t ≡ answerWords (deletePaper (r .answer)) → n ≡ t .number
+      → ((t .number ≡ 0) × (forecast' ≡ forecastWords (r .forecast))) ⊎ ((t .number ≢ 0) × (forecast' ≡ forecast))
+      → Gives (delete list forecast key reply) n (list' ∷ forecast' ∷ set (set reply 0 (t .first)) 1 (t .second) ∷ [])
   unfolding delete
-  delete-given F r n m p list' forecast' l l1 f a w en em ep =
-      let is : rules.delete list F key ≡ rules.delete list (saturated (forecastIn forecast)) key = ap (λ (G : Forecast). rules.delete list G key) f in
-      let same = request-same (Delete key) list (forecastIn forecast) (forecastIn-roomy forecast) in
-      let answer = a .answer ∙ ap (λ (c : rules.Called). c .answer) is ∙ same .answer in
-      let number = en ∙ ap (λ (x : Answer). x .number) answer in
-      let slots = a .slots-left ∙ ap (λ (c : rules.Called). c .slots) is ∙ same .slots in
-      let words : forecast' ≡ forecastWords (rules.delete list (forecastIn forecast) key .forecast) =
-      elim w [
-        | inl d ↦ d .1 ∙ ap forecastWords (a .forecast ∙ ap (λ (c : rules.Called). c .forecast) is ∙ same .done (sym number ∙ d .0))
-        | inr d ↦ d .1 ∙ sym (ap forecastWords (same .left (λ z. d .0 (number ∙ z))) ∙ words-again forecast l)
-      ] in
-      let moves = em ∙ ap (λ (x : Answer). x .moves) answer in
-      let sparse = ep ∙ ap (λ (x : Answer). one (x .sparse)) answer in
-      let said = over-two reply m p l1 ∙ (λ i. moves i ∷ sparse i ∷ drop 2 reply) in
+  delete-given F r t n list' forecast' l l1 f a e en w =
+      let k = asked (Delete key) list forecast F (r .forecast) _ t list' forecast' l f e (a .answer) (a .forecast) (a .slots-left) w in
+      let said = over-two reply (t .first) (t .second) l1 ∙ ap (λ (x : Told). x .first ∷ x .second ∷ drop 2 reply) (k .answer) in
       fitted (notForecast forecast || short reply 2) _ _ _ _ (nor (notForecast forecast) (short reply 2) (is-forecast forecast l) (is-long reply 2 l1))
-      (record { number = number; slices = λ i. slots i ∷ words i ∷ said i ∷ [] })
+      (record { number = en ∙ ap (λ (x : Told). x .number) (k .answer); slices = λ i. k .slots i ∷ k .words i ∷ said i ∷ [] })

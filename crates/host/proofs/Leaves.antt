@@ -23,11 +23,10 @@ use Rattle.rules.proofs.Refusals.Refused.{request-refused, lookup-refused, scan
 use Rattle.rules.proofs.Running.Runs.{run-refused}
 use Rattle.rules.proofs.Running.Singly as singly
 use Rattle.words.specs.Words.{cellWords, forecastIn, forecastWords}
-use Rattle.host.specs.Tallies.{totalsIn, totalsWords}
+use Rattle.words.specs.Totals.{totalsIn, totalsWords}
 use Rattle.host.specs.Calls.{Given, sized, notForecast, notTotals, short, over, replyWords, make, lookup, insert, delete, scan, run}
 use Rattle.host.specs.Refused.{Leaves, MakeLeaves, LookupLeaves, ScanLeaves, InsertLeaves, DeleteLeaves, RunLeaves}
 use Rattle.words.proofs.WordLaws.{words-again}
-use Rattle.host.proofs.TallyLaws.{totals-again}
 use Rattle.host.proofs.Numbers.{roomy, allRows, below-tells}
 
 -- THE NUMBERS OF THE ROWS BELOW are far from 100
@@ -52,6 +51,15 @@ forecast-fits ws t = eqb→eq (length ws) 37 (double-not (eqb (length ws) 37) t)
 
 totals-fit : (ws : List ℕ) → T (not (notTotals ws)) → length ws ≡ 4
 totals-fit ws t = eqb→eq (length ws) 4 (double-not (eqb (length ws) 4) t)
+
+-- four words that were read as totals and written again are the same words
+totals-again : (ws : List ℕ) → length ws ≡ 4 → totalsWords (totalsIn ws) ≡ ws
+totals-again [] h = absurd (omega arith)
+totals-again (a ∷ []) h = absurd (omega arith)
+totals-again (a ∷ b ∷ []) h = absurd (omega arith)
+totals-again (a ∷ b ∷ c ∷ []) h = absurd (omega arith)
+totals-again (a ∷ b ∷ c ∷ d ∷ []) h = refl
+totals-again (a ∷ b ∷ c ∷ d ∷ e ∷ ws) h = absurd (omega arith)
 
 -- THE CALLS
 pub make-leaves : MakeLeaves
@@ -107,6 +115,6 @@ run-leaves list forecast requests allowance totals reply =
     let S = totalsIn totals in
     let f = forecast-fits forecast (neither (notForecast forecast) _ t .0) in
     let g = totals-fit totals (neither (notTotals totals) _ (neither (notForecast forecast) _ t .1) .0) in
-    ap (λ (w : rules.Worked). w .slots ∷ forecastWords (w .forecast) ∷ totalsWords (w .totals) ∷ over (replyWords (w .reply)) reply ∷ [])
+    ap (λ (w : rules.Worked). w .slots ∷ forecastWords (w .forecast) ∷ totalsWords (w .totals) ∷ over (replyWords (w .reply .tally)) reply ∷ [])
     (run-refused list F requests allowance S (unchecked list F requests allowance S n s))
     ∙ (λ i. list ∷ words-again forecast f i ∷ totals-again totals g i ∷ over (0 ∷ 0 ∷ 0 ∷ 0 ∷ []) reply ∷ [])

@@ -1,4 +1,3 @@
-pub mod TallyLaws
 pub mod Over
 pub mod Sized
 pub mod ChangeGiven

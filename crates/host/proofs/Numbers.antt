@@ -16,7 +16,7 @@ use Rattle.rules.proofs.Refusals.Numbers as below
 use Rattle.rules.proofs.Running.Runs.{run-refused}
 use Rattle.rules.proofs.Running.Singly as singly
 use Rattle.words.specs.Words.{forecastIn}
-use Rattle.host.specs.Tallies.{totalsIn}
+use Rattle.words.specs.Totals.{totalsIn}
 use Rattle.host.specs.Calls.{Given, sized, notForecast, notTotals, short, make, check, lookup, insert, delete, scan, run}
 use Rattle.host.specs.Refused.{row100, NotForecast, MakeTells, CheckTells, LookupTells, ScanTells, InsertTells, DeleteTells, RunTells}
 use Rattle.forecast.specs.Tidy.{Roomy}

@@ -1,9 +1,9 @@
 -- Words written one by one over the first of a slice.
 use Prim.Native.Nat.{ℕ, _≤_}
-use mathlib.Core.Path.{_≡_, refl, ap, _∙_}
+use mathlib.Core.Path.{_≡_, refl, ap}
 use mathlib.Core.List.{List, [], _∷_}
 use native.Mathlib.Omega.{arith}
-use lib.ListN.{length, drop, set, drop-of-length-le}
+use lib.ListN.{length, drop, set}
 use lib.Seq.{drop-at}
 use Rattle.host.specs.Calls.{over}
 
@@ -19,10 +19,6 @@ pub over-four : (ws : List ℕ) (a b c d : ℕ) → 4 ≤ length ws → set (set
 over-four [] a b c d h = absurd (omega arith)
 over-four (w ∷ []) a b c d h = absurd (omega arith)
 over-four (w ∷ x ∷ ws) a b c d h = ap (λ (r : List ℕ). a ∷ b ∷ r) (over-two ws c d (omega arith))
-
--- no word is left beyond
-pub over-all : (ws : List ℕ) (a b c d : ℕ) → length ws ≡ 4 → set (set (set (set ws 0 a) 1 b) 2 c) 3 d ≡ a ∷ b ∷ c ∷ d ∷ []
-over-all ws a b c d h = over-four ws a b c d (omega arith) ∙ ap (λ (r : List ℕ). a ∷ b ∷ c ∷ d ∷ r) (drop-of-length-le ws {i = 4} (omega arith))
 
 -- the words beyond those listed stay
 pub beyond : (ws reply : List ℕ) → drop (length ws) (over ws reply) ≡ drop (length ws) reply

@@ -7,13 +7,14 @@ use lib.ListN.{length, drop, set}
 use Rattle.forecast.specs.declared.Forecast.{Forecast}
 use Rattle.rules.specs.Checks as checks
 use Rattle.rules.specs.Runs.{one}
-use Rattle.rules.specs.Looking.{Found}
 use Rattle.list.specs.declared.MakeReply.{MakeReply}
 use Rattle.list.specs.declared.CheckAnswer.{CheckAnswer}
 use Rattle.list.specs.declared.LookupAnswer.{LookupAnswer}
 use Rattle.list.specs.declared.ScanAnswer.{ScanAnswer}
 use Rattle.list.specs.Admits.{MakeAdmits, CheckAdmits, LookupAdmits, ScanAdmits}
 use Rattle.list.specs.Answers.{makeNumber, checkNumber, lookupPaper, scanPaper}
+use Rattle.telling.specs.declared.Told.{Told}
+use Rattle.telling.specs.Told.{foundWords, scannedWords}
 use Rattle.words.specs.Words.{forecastIn, forecastWords, saturated}
 use Rattle.words.proofs.Called.{check-same}
 use Rattle.host.specs.Calls.{make, check, lookup, scan, notForecast, short, Gives}
@@ -49,25 +50,25 @@ module _ (list : List ℕ) (key : ℕ) (reply : List ℕ) where
   unfolding lookup
   lookup-misfit e = misfit (short reply 2) _ _ e
 
-  pub lookup-given : (r : LookupAnswer) (n p s : ℕ) → 2 ≤ length reply → LookupAdmits list key r → n ≡ lookupPaper r .number → p ≡ one (lookupPaper r .present) → s ≡ lookupPaper r .segment
-      → Gives (lookup list key reply) n (set (set reply 0 p) 1 s ∷ [])
+  pub lookup-given : (r : LookupAnswer) (t : Told) → 2 ≤ length reply → LookupAdmits list key r → t ≡ foundWords (lookupPaper r)
+      → Gives (lookup list key reply) (t .number) (set (set reply 0 (t .first)) 1 (t .second) ∷ [])
   unfolding lookup
-  lookup-given r n p s l a en ep es =
-      let present = ep ∙ ap (λ (f : Found). one (f .present)) (a .answer) in
-      let segment = es ∙ ap (λ (f : Found). f .segment) (a .answer) in
-      let said = over-two reply p s l ∙ (λ i. present i ∷ segment i ∷ drop 2 reply) in
-      fitted (short reply 2) _ _ _ _ (is-long reply 2 l) (record { number = en ∙ ap (λ (f : Found). f .number) (a .answer); slices = λ i. said i ∷ [] })
+  lookup-given r t l a e =
+      let is = e ∙ ap foundWords (a .answer) in
+      let said = over-two reply (t .first) (t .second) l ∙ ap (λ (x : Told). x .first ∷ x .second ∷ drop 2 reply) is in
+      fitted (short reply 2) _ _ _ _ (is-long reply 2 l) (record { number = ap (λ (x : Told). x .number) is; slices = λ i. said i ∷ [] })
 
 module _ (list : List ℕ) (from : ℕ) (output reply : List ℕ) where
   pub scan-misfit : T (short reply 2) → Gives (scan list from output reply) 100 (output ∷ reply ∷ [])
   unfolding scan
   scan-misfit e = misfit (short reply 2) _ _ e
 
-  pub scan-given : (r : ScanAnswer) (n w m : ℕ) (output' : List ℕ) → 2 ≤ length reply → ScanAdmits list from output r output' → n ≡ scanPaper r .number → w ≡ scanPaper r .written
-      → m ≡ one (scanPaper r .more) → Gives (scan list from output reply) n (output' ∷ set (set reply 0 w) 1 m ∷ [])
+  pub scan-given : (r : ScanAnswer) (t : Told) (output' : List ℕ) → 2 ≤ length reply → ScanAdmits list from output r output' → t ≡ scannedWords (scanPaper r)
+      → Gives (scan list from output reply) (t .number) (output' ∷ set (set reply 0 (t .first)) 1 (t .second) ∷ [])
   unfolding scan
-  scan-given r n w m output' l a en ew em =
-      let written = ew ∙ a .written in
-      let more = em ∙ ap one (a .more) in
-      let said = over-two reply w m l ∙ (λ i. written i ∷ more i ∷ drop 2 reply) in
-      fitted (short reply 2) _ _ _ _ (is-long reply 2 l) (record { number = en ∙ a .number; slices = λ i. a .output i ∷ said i ∷ [] })
+  scan-given r t output' l a e =
+      let number = ap (λ (x : Told). x .number) e ∙ a .number in
+      let written = ap (λ (x : Told). x .first) e ∙ a .written in
+      let more = ap (λ (x : Told). x .second) e ∙ ap one (a .more) in
+      let said = over-two reply (t .first) (t .second) l ∙ (λ i. written i ∷ more i ∷ drop 2 reply) in
+      fitted (short reply 2) _ _ _ _ (is-long reply 2 l) (record { number = number; slices = λ i. a .output i ∷ said i ∷ [] })

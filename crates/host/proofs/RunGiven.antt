@@ -6,13 +6,14 @@ use native.Mathlib.Omega.{arith}
 use mathlib.Core.Bool.{not, _||_}
 use lib.Dec.{T, eqb, eqb→eq}
 use mathlib.Core.List.{List, [], _∷_}
-use lib.ListN.{length, drop}
+use lib.ListN.{length}
 use Rattle.lists.proofs.Tests.{nor, tested, neqb→ne}
 use Rattle.forecast.specs.declared.Forecast.{Forecast}
+use Rattle.rules.specs.declared.Tally.{Tally}
 use Rattle.rules.specs.declared.Totals.{Totals}
 use Rattle.rules.specs.Calls as rules
-use Rattle.run.specs.declared.Run.{Run}
-use Rattle.run.specs.Admits.{RunAdmits}
+use Rattle.run.specs.declared.ToldRun.{ToldRun}
+use Rattle.run.specs.Admits.{RunTells}
 use Rattle.rules.specs.Checks as checks
 use Rattle.rules.specs.Rows.{Tells, bothRows, stopRows}
 use Rattle.rules.proofs.Refusals.Numbers as below
@@ -20,8 +21,8 @@ use Rattle.rules.proofs.Running.Singly as singly
 use Rattle.words.specs.Words.{forecastIn, forecastWords, saturated}
 use Rattle.words.proofs.WordLaws.{words-again, forecastIn-roomy}
 use Rattle.words.proofs.Called.{run-same}
-use Rattle.host.specs.Tallies.{totalsIn, totalsWords}
-use Rattle.host.specs.Calls.{run, notForecast, notTotals, short, over, Gives}
+use Rattle.words.specs.Totals.{totalsIn, totalsWords}
+use Rattle.host.specs.Calls.{run, notForecast, notTotals, short, over, replyWords, Gives}
 use Rattle.host.proofs.Sized.{is-forecast, is-totals, is-long, misfit, fitted}
 
 module _ (list forecast requests : List ℕ) (allowance : ℕ) (totals reply : List ℕ) where
@@ -80,24 +81,20 @@ module _ (list forecast requests : List ℕ) (allowance : ℕ) (totals reply : L
       ]
 
   -- the words written are the same where the run is worked, and where it is refused at once those lent are left
-  pub run-given : (F : Forecast) (T : Totals) (r : Run) (list' forecast' totals' reply' : List ℕ) → length forecast ≡ 37 → length totals ≡ 4 → 4 ≤ length reply
-      → F ≡ saturated (forecastIn forecast) → T ≡ totalsIn totals → RunAdmits list F requests allowance T r list'
-      → ((((r .reply .stop ≡ 0) ⊎ (5 ≤ r .reply .stop)) × (forecast' ≡ forecastWords (r .reply .forecast))) ⊎ (((1 ≤ r .reply .stop) × (r .reply .stop ≤ 4)) × (forecast' ≡ forecast)))
-      → totals' ≡ totalsWords (r .totals) → reply' ≡ over (r .reply .worked ∷ r .reply .refused ∷ r .reply .moves ∷ r .reply .place ∷ []) reply
-      → Gives (run list forecast requests allowance totals reply) (r .reply .stop) (list' ∷ forecast' ∷ totals' ∷ reply' ∷ [])
+  pub run-given : (F : Forecast) (T : Totals) (r : ToldRun) (list' forecast' totals' reply' : List ℕ) → length forecast ≡ 37 → length totals ≡ 4 → 4 ≤ length reply
+      → F ≡ saturated (forecastIn forecast) → T ≡ totalsIn totals → RunTells list F requests allowance T r list'
+      → ((((r .told .stop ≡ 0) ⊎ (5 ≤ r .told .stop)) × (forecast' ≡ forecastWords (r .told .forecast))) ⊎ (((1 ≤ r .told .stop) × (r .told .stop ≤ 4)) × (forecast' ≡ forecast)))
+      → totals' ≡ totalsWords (r .totals) → reply' ≡ over (replyWords (r .told .tally)) reply
+      → Gives (run list forecast requests allowance totals reply) (r .told .stop) (list' ∷ forecast' ∷ totals' ∷ reply' ∷ [])
   unfolding run
   run-given F T r list' forecast' totals' reply' l m n f g a w wt wr =
       let is : rules.run list F requests allowance T ≡ rules.run list (saturated (forecastIn forecast)) requests allowance (totalsIn totals) = λ i. rules.run list (f i) requests allowance (g i) in
       let same = run-same list (forecastIn forecast) requests allowance (totalsIn totals) (forecastIn-roomy forecast) in
-      let said′ = same .reply in
       let slots = a .slots-left ∙ ap (λ (w : rules.Worked). w .slots) is ∙ same .slots-left in
-      let stop = a .stop ∙ ap (λ (w : rules.Worked). w .reply .stop) is ∙ ap (λ (x : rules.Reply). x .stop) said′ in
-      let words = back (r .reply .stop) forecast' (forecastWords (r .reply .forecast)) l stop (ap forecastWords (a .forecast ∙ ap (λ (w : rules.Worked). w .forecast) is)) w in
+      let stop = a .stop ∙ ap (λ (w : rules.Worked). w .reply .stop) is ∙ ap (λ (x : rules.Reply). x .stop) (same .reply) in
+      let words = back (r .told .stop) forecast' (forecastWords (r .told .forecast)) l stop (ap forecastWords (a .forecast ∙ ap (λ (w : rules.Worked). w .forecast) is)) w in
       let sums = wt ∙ ap totalsWords (a .totals ∙ ap (λ (w : rules.Worked). w .totals) is ∙ same .totals) in
-      let worked = a .worked ∙ ap (λ (w : rules.Worked). w .reply .worked) is ∙ ap (λ (x : rules.Reply). x .worked) said′ in
-      let refused = a .refused ∙ ap (λ (w : rules.Worked). w .reply .refused) is ∙ ap (λ (x : rules.Reply). x .refused) said′ in
-      let moves = a .moves ∙ ap (λ (w : rules.Worked). w .reply .moves) is ∙ ap (λ (x : rules.Reply). x .moves) said′ in
-      let place = a .place ∙ ap (λ (w : rules.Worked). w .reply .place) is ∙ ap (λ (x : rules.Reply). x .place) said′ in
-      let said = wr ∙ (λ i. worked i ∷ refused i ∷ moves i ∷ place i ∷ drop 4 reply) in
+      let tally = a .tally ∙ ap (λ (w : rules.Worked). w .reply .tally) is ∙ ap (λ (x : rules.Reply). x .tally) (same .reply) in
+      let said = wr ∙ ap (λ (t : Tally). over (replyWords t) reply) tally in
       fitted (notForecast forecast || (notTotals totals || short reply 4)) _ _ _ _ (fits l m n)
       (record { number = stop; slices = λ i. slots i ∷ words i ∷ sums i ∷ said i ∷ [] })

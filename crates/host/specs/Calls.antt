@@ -7,12 +7,13 @@ use mathlib.Core.List.{List, [], _∷_, _++_}
 use lib.Dec.{eqb, ltb}
 use lib.ListN.{length, drop}
 use Rattle.lists.specs.Choice.{if_then_else_}
+use Rattle.rules.specs.declared.Tally.{Tally}
 use Rattle.rules.specs.Looking.{Found, Scanned}
 use Rattle.rules.specs.Runs.{one}
 use Rattle.rules.specs.Checks as checks
 use Rattle.rules.specs.Calls as rules
 use Rattle.words.specs.Words.{forecastIn, forecastWords}
-use Rattle.host.specs.Tallies.{totalsIn, totalsWords}
+use Rattle.words.specs.Totals.{totalsIn, totalsWords}
 
 pub record Given : Type 0 where
   pub number : ℕ
@@ -74,8 +75,8 @@ scan list from output reply =
     (record { number = s .number; left = s .output ∷ over (s .written ∷ one (s .more) ∷ []) reply ∷ [] })
 
 -- reply: worked, refused, moves, place; the number is the stop number
-abbrev pub replyWords : rules.Reply → List ℕ
-replyWords r = r .worked ∷ r .refused ∷ r .moves ∷ r .place ∷ []
+abbrev pub replyWords : Tally → List ℕ
+replyWords t = t .worked ∷ t .refused ∷ t .moves ∷ t .place ∷ []
 
 unfoldable pub run : List ℕ → List ℕ → List ℕ → ℕ → List ℕ → List ℕ → Given
 run list forecast requests allowance totals reply =
@@ -83,7 +84,7 @@ run list forecast requests allowance totals reply =
     sized (notForecast forecast || (notTotals totals || short reply 4)) (list ∷ forecast ∷ totals ∷ reply ∷ [])
     (record {
       number = w .reply .stop;
-      left = w .slots ∷ forecastWords (w .forecast) ∷ totalsWords (w .totals) ∷ over (replyWords (w .reply)) reply ∷ [];
+      left = w .slots ∷ forecastWords (w .forecast) ∷ totalsWords (w .totals) ∷ over (replyWords (w .reply .tally)) reply ∷ [];
     })
 
 -- What each call promises: the number that it returns and what it leaves are those of its definition.

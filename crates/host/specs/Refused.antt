@@ -7,7 +7,7 @@ use lib.ListN.{length, replicate}
 use Rattle.rules.specs.Calls as rules
 use Rattle.rules.specs.Rows.{Row, Tells, row1, listRows, bothRows, lookupRows, insertRows, deleteRows, runRows}
 use Rattle.words.specs.Words.{forecastIn}
-use Rattle.host.specs.Tallies.{totalsIn}
+use Rattle.words.specs.Totals.{totalsIn}
 use Rattle.host.specs.Calls.{Given, over, make, check, lookup, insert, delete, scan, run}
 
 -- EACH NUMBER IS GIVEN EXACTLY WHEN ITS ROW APPLIES AND NONE BEFORE IT DOES; 100 is the first.

@@ -15,10 +15,10 @@ pub extern "C" fn ff_make(list: &mut [u64], forecast: &mut [u64]) -> u64
     }
     let made = list::calls::make(list);
     let answer = made.answer;
-    let told = list::telling::make_number(answer);
+    let number = telling::make_number(answer);
     let empty = made.forecast;
     words::write_forecast(empty, forecast);
-    told
+    number
 }
 
 // Tests refusals 1 to 4.
@@ -30,7 +30,7 @@ pub extern "C" fn ff_check(list: &[u64], forecast: &[u64]) -> u64
         return MISFIT;
     }
     let given = words::read_forecast(forecast);
-    let passed = list::telling::check_number(list::calls::check(list, given));
+    let passed = telling::check_number(list::calls::check(list, given));
     passed
 }
 
@@ -43,12 +43,10 @@ pub extern "C" fn ff_lookup(list: &[u64], key: u64, reply: &mut [u64]) -> u64
         return MISFIT;
     }
     let found = list::calls::lookup(list, key);
-    let looked = list::telling::lookup_number(found);
-    let present = list::telling::lookup_present(found);
-    let segment = list::telling::lookup_segment(found);
-    reply[0] = present;
-    reply[1] = segment;
-    looked
+    let told = telling::lookup_told(found);
+    reply[0] = told.first;
+    reply[1] = told.second;
+    told.number
 }
 
 // The live keys above `from`, rising.
@@ -60,10 +58,8 @@ pub extern "C" fn ff_scan(list: &[u64], from: u64, output: &mut [u64], reply: &m
         return MISFIT;
     }
     let scanned = list::calls::scan(list, from, output);
-    let number = list::telling::scan_number(scanned);
-    let written = list::telling::scan_written(scanned);
-    let more = list::telling::scan_more(scanned);
-    reply[0] = written;
-    reply[1] = more;
-    number
+    let said = telling::scan_told(scanned);
+    reply[0] = said.first;
+    reply[1] = said.second;
+    said.number
 }

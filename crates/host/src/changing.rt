@@ -24,16 +24,15 @@ pub extern "C" fn ff_insert(
     let given = words::read_forecast(forecast);
     let done = list::changing::insert(list, given, key);
     let answer = done.answer;
-    let number = list::telling::insert_number(answer);
-    let moves = list::telling::insert_moves(answer);
-    reply[0] = moves;
+    let told = telling::insert_told(answer);
+    reply[0] = told.first;
     // Refused: the words stay as they were lent.
-    if number != 0 {
-        return number;
+    if told.number != 0 {
+        return told.number;
     }
     let noted = done.forecast;
     words::write_forecast(noted, forecast);
-    number
+    0
 }
 
 // Takes a live key out.
@@ -55,15 +54,13 @@ pub extern "C" fn ff_delete(
     let given = words::read_forecast(forecast);
     let done = list::changing::delete(list, given, key);
     let answer = done.answer;
-    let told = list::telling::delete_number(answer);
-    let moved = list::telling::delete_moves(answer);
-    let sparse = list::telling::delete_sparse(answer);
-    reply[0] = moved;
-    reply[1] = sparse;
-    if told != 0 {
-        return told;
+    let told = telling::delete_told(answer);
+    reply[0] = told.first;
+    reply[1] = told.second;
+    if told.number != 0 {
+        return told.number;
     }
     let dropped = done.forecast;
     words::write_forecast(dropped, forecast);
-    told
+    0
 }

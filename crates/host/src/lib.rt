@@ -2,7 +2,6 @@
 pub mod calls;
 pub mod changing;
 pub mod running;
-pub mod tallies;
 
 // What a call answers where the forecast, the totals or the reply has the wrong size.
 pub const MISFIT: u64 = 100;

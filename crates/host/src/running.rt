@@ -3,23 +3,22 @@ ghost use mathlib.Core.Path.{_≡_};
 ghost use mathlib.Core.List.{[], _∷_};
 ghost use Prim.Native.Nat.{_≤_};
 ghost use lib.ListN.{length};
-ghost use Rattle.host.specs.Calls.{over, Gives};
+ghost use Rattle.host.specs.Calls.{over, replyWords, Gives};
 ghost use Rattle.host.specs.Calls as calls;
 use crate::FORECAST;
 use crate::MISFIT;
 use crate::TOTALS;
-use crate::tallies;
-use run::Reply;
+use rules::Tally;
 
 // A run's reply: records worked, records refused, moves, and the byte place.
-fn write_reply(done: Reply, reply: &mut [u64])
+fn write_reply(tally: Tally, reply: &mut [u64])
     requires { ⌜ 4 ≤ length (now reply) ⌝ }
-    ensures { λ _. ⌜ now (reply .exit) ≡ over (done .worked ∷ done .refused ∷ done .moves ∷ done .place ∷ []) (now (reply .entry)) ⌝ }
+    ensures { λ _. ⌜ now (reply .exit) ≡ over (replyWords tally) (now (reply .entry)) ⌝ }
 {
-    reply[0] = done.worked as u64;
-    reply[1] = done.refused as u64;
-    reply[2] = done.moves;
-    reply[3] = done.place as u64;
+    reply[0] = tally.worked as u64;
+    reply[1] = tally.refused as u64;
+    reply[2] = tally.moves;
+    reply[3] = tally.place as u64;
 }
 
 // Works request records, within an allowance of moves.
@@ -44,19 +43,18 @@ pub extern "C" fn ff_run(
         return MISFIT;
     }
     let given = words::read_forecast(forecast);
-    let before = tallies::read_totals(totals);
-    let ran = run::running::run_with(list, given, requests, allowance, before);
-    let done = ran.reply;
-    tallies::write_totals(ran.totals, totals);
-    write_reply(done, reply);
-    let stop = done.stop;
+    let before = words::totals::read_totals(totals);
+    let ran = run::running::run_told(list, given, requests, allowance, before);
+    let done = ran.told;
+    words::totals::write_totals(ran.totals, totals);
+    write_reply(done.tally, reply);
     // Refused at once: the words stay as they were lent.
-    if 0 < stop {
-        if stop < 5 {
-            return stop as u64;
+    if 0 < done.stop {
+        if done.stop < 5 {
+            return done.stop;
         }
     }
     let left = done.forecast;
     words::write_forecast(left, forecast);
-    stop as u64
+    done.stop
 }

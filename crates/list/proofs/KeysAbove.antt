@@ -1,7 +1,6 @@
 -- The keys above a key begin where a search for it ends; written into an output, they are what a scan gives.
 use mathlib.Core.Path.{_≡_, sym, ap, ap₂, _∙_, subst}
 use mathlib.Core.Bool.{Bool, true, false, not}
-use mathlib.Core.Logic.{_≢_}
 use mathlib.Core.List.{List, [], _++_, List·Memᴰ as Mem}
 use Prim.Native.Nat.{ℕ, suc, _+_, _<_}
 use native.Mathlib.Numerals.{add-one}
@@ -16,15 +15,17 @@ use Rattle.slots.proofs.Rising.{above-parts}
 use Rattle.slots.proofs.Keys.{Between, member→mem, keys-parts, rising-part}
 use Rattle.slots.proofs.ByPlace.{place-old, drop-new, drop-old}
 use Rattle.slots.proofs.Seats.{seat-between, seat-member}
+use Rattle.rules.specs.declared.Refusal.{Refusal}
+use Rattle.rules.specs.Refusals.{refusalNumber}
 use Rattle.rules.specs.Checks.{checkList}
 use Rattle.rules.specs.Looking.{Scanned, scanned}
+use Rattle.rules.proofs.Refusals.Told.{refusal-some}
+use Rattle.rules.proofs.Requests.Shown.{shows-passed}
 use Rattle.rules.proofs.Sets.SetLaws.{above-beyond}
 use Rattle.rules.proofs.Sets.SetScan.{scanned-more}
 use Rattle.list.specs.declared.ScanAnswer.{ScanAnswer}
-use Rattle.list.specs.Answers.{ScanPaper, scanPaper}
 use Rattle.list.specs.Admits.{ScanAdmits}
 use Rattle.list.specs.Scans.{Wrote, keysFrom}
-use Rattle.steps.proofs.Valid.{shows-passed}
 use Rattle.list.proofs.Replies.{scan-refused, scan-passed}
 
 -- WHERE THEY BEGIN
@@ -91,13 +92,12 @@ wrote-admits slots a out ks r left e q v =
     }
 
 -- and where the check refuses: the number, and the output as it was
-pub refused-admits : (slots : List ℕ) (a : ℕ) (out : List ℕ) (r : ScanAnswer) (k : ℕ) → checkList slots ≡ k → k ≢ 0 → scanPaper r ≡ record { number = k; written = 0; more = false }
-    → ScanAdmits slots a out r out
-refused-admits slots a out r k e n t =
-    let p = scan-refused slots a out (λ z. n (sym e ∙ z)) in
+pub refused-admits : (slots : List ℕ) (a : ℕ) (out : List ℕ) (x : Refusal) → checkList slots ≡ refusalNumber x → ScanAdmits slots a out (ScanAnswer.Refused x) out
+refused-admits slots a out x e =
+    let p = scan-refused slots a out (omega (arith, refusal-some x)) in
     record {
-      number = ap (λ (s : ScanPaper). s .number) t ∙ sym e ∙ sym (ap (λ (s : Scanned). s .number) p);
-      written = ap (λ (s : ScanPaper). s .written) t ∙ sym (ap (λ (s : Scanned). s .written) p);
-      more = ap (λ (s : ScanPaper). s .more) t ∙ sym (ap (λ (s : Scanned). s .more) p);
+      number = sym e ∙ sym (ap (λ (s : Scanned). s .number) p);
+      written = sym (ap (λ (s : Scanned). s .written) p);
+      more = sym (ap (λ (s : Scanned). s .more) p);
       output = sym (ap (λ (s : Scanned). s .output) p);
     }

@@ -1,10 +1,13 @@
 -- No two answers have the same paper values: each answer is read back from them.
-use mathlib.Core.Path.{_≡_, refl, sym, ap, _∙_}
+use mathlib.Core.Path.{_≡_, refl, sym, ap, ap₂, _∙_}
 use Prim.Native.Nat.{ℕ}
-use lib.Dec.{eqb}
 use Rattle.lists.specs.Choice.{if_then_else_}
+use Rattle.rules.specs.declared.Verdict.{Verdict}
+use Rattle.rules.specs.declared.Verdict.the-variants.{Refused, Accepted}
+use Rattle.rules.specs.Refusals.{verdictNumber}
 use Rattle.rules.specs.Placing.{Answer}
 use Rattle.rules.specs.Looking.{Found}
+use Rattle.rules.proofs.Refusals.Told.{verdict-told}
 use Rattle.list.specs.declared.MakeAnswer.{MakeAnswer}
 use Rattle.list.specs.declared.CheckAnswer.{CheckAnswer}
 use Rattle.list.specs.declared.LookupAnswer.{LookupAnswer}
@@ -13,119 +16,84 @@ use Rattle.list.specs.declared.InsertAnswer.{InsertAnswer}
 use Rattle.list.specs.declared.DeleteAnswer.{DeleteAnswer}
 use Rattle.list.specs.Answers.{makeNumber, checkNumber, lookupPaper, ScanPaper, scanPaper, insertPaper, deletePaper}
 
--- THE ANSWER OF PAPER VALUES
-abbrev makeOf : ℕ → MakeAnswer
-makeOf n = if eqb n 1 then MakeAnswer.WrongLength else MakeAnswer.Made
+-- ANY KIND OF ANSWER: its values have a verdict's number, and verdict and values give it back; so the values tell it
+module _ {A P : Type 0} (paper : A → P) (number : P → ℕ) (of : Verdict → P → A) where
+  abbrev Back : A → Type 0
+  Back a = (v : Verdict) × (verdictNumber v ≡ number (paper a)) × (of v (paper a) ≡ a)
 
-abbrev checkOf : ℕ → CheckAnswer
-checkOf n =
-    if eqb n 1 then CheckAnswer.WrongLength
-    else if eqb n 2 then CheckAnswer.WrongOrder
-    else if eqb n 3 then CheckAnswer.TooManyKeys
-    else if eqb n 4 then CheckAnswer.WrongForecast
-    else CheckAnswer.Passed
+  told : ((a : A) → Back a) → (a b : A) → paper a ≡ paper b → a ≡ b
+  told back a b e =
+      sym (back a .2) ∙ ap₂ of (verdict-told (back a .0) (back b .0) (back a .1 ∙ ap number e ∙ sym (back b .1))) e ∙ back b .2
 
-abbrev lookupOf : Found → LookupAnswer
-lookupOf f =
-    if eqb (f .number) 1 then LookupAnswer.WrongLength
-    else if eqb (f .number) 2 then LookupAnswer.WrongOrder
-    else if eqb (f .number) 3 then LookupAnswer.TooManyKeys
-    else if eqb (f .number) 5 then LookupAnswer.KeyZero
-    else if f .present then LookupAnswer.Present (f .segment)
-    else LookupAnswer.Absent
+-- MAKE AND CHECK: the number alone
+abbrev makeOf : Verdict → ℕ → MakeAnswer
+makeOf (Refused x) n = MakeAnswer.Refused x
+makeOf Accepted n = MakeAnswer.Made
 
-abbrev scanOf : ScanPaper → ScanAnswer
-scanOf p =
-    if eqb (p .number) 1 then ScanAnswer.WrongLength
-    else if eqb (p .number) 2 then ScanAnswer.WrongOrder
-    else if eqb (p .number) 3 then ScanAnswer.TooManyKeys
-    else if p .more then ScanAnswer.More (p .written)
-    else ScanAnswer.Ended (p .written)
+make-back : (a : MakeAnswer) → Back makeNumber (λ n. n) makeOf a
+make-back (MakeAnswer.Refused x) = (Refused x, refl, refl)
+make-back MakeAnswer.Made = (Accepted, refl, refl)
 
-abbrev insertOf : Answer → InsertAnswer
-insertOf a =
-    if eqb (a .number) 1 then InsertAnswer.WrongLength
-    else if eqb (a .number) 2 then InsertAnswer.WrongOrder
-    else if eqb (a .number) 3 then InsertAnswer.TooManyKeys
-    else if eqb (a .number) 4 then InsertAnswer.WrongForecast
-    else if eqb (a .number) 5 then InsertAnswer.KeyZero
-    else if eqb (a .number) 6 then InsertAnswer.KeyPresent
-    else if eqb (a .number) 8 then InsertAnswer.Full
-    else InsertAnswer.Inserted (a .moves)
-
-abbrev deleteOf : Answer → DeleteAnswer
-deleteOf a =
-    if eqb (a .number) 1 then DeleteAnswer.WrongLength
-    else if eqb (a .number) 2 then DeleteAnswer.WrongOrder
-    else if eqb (a .number) 3 then DeleteAnswer.TooManyKeys
-    else if eqb (a .number) 4 then DeleteAnswer.WrongForecast
-    else if eqb (a .number) 5 then DeleteAnswer.KeyZero
-    else if eqb (a .number) 7 then DeleteAnswer.KeyAbsent
-    else if a .sparse then DeleteAnswer.DeletedSparse (a .moves)
-    else DeleteAnswer.Deleted (a .moves)
-
--- READ BACK
-make-back : (a : MakeAnswer) → makeOf (makeNumber a) ≡ a
-make-back MakeAnswer.WrongLength = refl
-make-back MakeAnswer.Made = refl
-
-check-back : (a : CheckAnswer) → checkOf (checkNumber a) ≡ a
-check-back CheckAnswer.WrongLength = refl
-check-back CheckAnswer.WrongOrder = refl
-check-back CheckAnswer.TooManyKeys = refl
-check-back CheckAnswer.WrongForecast = refl
-check-back CheckAnswer.Passed = refl
-
-lookup-back : (a : LookupAnswer) → lookupOf (lookupPaper a) ≡ a
-lookup-back LookupAnswer.WrongLength = refl
-lookup-back LookupAnswer.WrongOrder = refl
-lookup-back LookupAnswer.TooManyKeys = refl
-lookup-back LookupAnswer.KeyZero = refl
-lookup-back (LookupAnswer.Present s) = refl
-lookup-back LookupAnswer.Absent = refl
-
-scan-back : (a : ScanAnswer) → scanOf (scanPaper a) ≡ a
-scan-back ScanAnswer.WrongLength = refl
-scan-back ScanAnswer.WrongOrder = refl
-scan-back ScanAnswer.TooManyKeys = refl
-scan-back (ScanAnswer.Ended n) = refl
-scan-back (ScanAnswer.More n) = refl
-
-insert-back : (a : InsertAnswer) → insertOf (insertPaper a) ≡ a
-insert-back InsertAnswer.WrongLength = refl
-insert-back InsertAnswer.WrongOrder = refl
-insert-back InsertAnswer.TooManyKeys = refl
-insert-back InsertAnswer.WrongForecast = refl
-insert-back InsertAnswer.KeyZero = refl
-insert-back InsertAnswer.KeyPresent = refl
-insert-back InsertAnswer.Full = refl
-insert-back (InsertAnswer.Inserted n) = refl
-
-delete-back : (a : DeleteAnswer) → deleteOf (deletePaper a) ≡ a
-delete-back DeleteAnswer.WrongLength = refl
-delete-back DeleteAnswer.WrongOrder = refl
-delete-back DeleteAnswer.TooManyKeys = refl
-delete-back DeleteAnswer.WrongForecast = refl
-delete-back DeleteAnswer.KeyZero = refl
-delete-back DeleteAnswer.KeyAbsent = refl
-delete-back (DeleteAnswer.Deleted n) = refl
-delete-back (DeleteAnswer.DeletedSparse n) = refl
-
--- SO THE VALUES TELL THE ANSWER
 pub make-told : (a b : MakeAnswer) → makeNumber a ≡ makeNumber b → a ≡ b
-make-told a b e = sym (make-back a) ∙ ap makeOf e ∙ make-back b
+make-told = told makeNumber (λ n. n) makeOf make-back
+
+abbrev checkOf : Verdict → ℕ → CheckAnswer
+checkOf (Refused x) n = CheckAnswer.Refused x
+checkOf Accepted n = CheckAnswer.Passed
+
+check-back : (a : CheckAnswer) → Back checkNumber (λ n. n) checkOf a
+check-back (CheckAnswer.Refused x) = (Refused x, refl, refl)
+check-back CheckAnswer.Passed = (Accepted, refl, refl)
 
 pub check-told : (a b : CheckAnswer) → checkNumber a ≡ checkNumber b → a ≡ b
-check-told a b e = sym (check-back a) ∙ ap checkOf e ∙ check-back b
+check-told = told checkNumber (λ n. n) checkOf check-back
+
+-- LOOKUP
+abbrev lookupOf : Verdict → Found → LookupAnswer
+lookupOf (Refused x) f = LookupAnswer.Refused x
+lookupOf Accepted f = if f .present then LookupAnswer.Present (f .segment) else LookupAnswer.Absent
+
+lookup-back : (a : LookupAnswer) → Back lookupPaper (λ f. f .number) lookupOf a
+lookup-back (LookupAnswer.Refused x) = (Refused x, refl, refl)
+lookup-back (LookupAnswer.Present s) = (Accepted, refl, refl)
+lookup-back LookupAnswer.Absent = (Accepted, refl, refl)
 
 pub lookup-told : (a b : LookupAnswer) → lookupPaper a ≡ lookupPaper b → a ≡ b
-lookup-told a b e = sym (lookup-back a) ∙ ap lookupOf e ∙ lookup-back b
+lookup-told = told lookupPaper (λ f. f .number) lookupOf lookup-back
+
+-- SCAN
+abbrev scanOf : Verdict → ScanPaper → ScanAnswer
+scanOf (Refused x) p = ScanAnswer.Refused x
+scanOf Accepted p = if p .more then ScanAnswer.More (p .written) else ScanAnswer.Ended (p .written)
+
+scan-back : (a : ScanAnswer) → Back scanPaper (λ p. p .number) scanOf a
+scan-back (ScanAnswer.Refused x) = (Refused x, refl, refl)
+scan-back (ScanAnswer.Ended n) = (Accepted, refl, refl)
+scan-back (ScanAnswer.More n) = (Accepted, refl, refl)
 
 pub scan-told : (a b : ScanAnswer) → scanPaper a ≡ scanPaper b → a ≡ b
-scan-told a b e = sym (scan-back a) ∙ ap scanOf e ∙ scan-back b
+scan-told = told scanPaper (λ p. p .number) scanOf scan-back
+
+-- INSERT AND DELETE
+abbrev insertOf : Verdict → Answer → InsertAnswer
+insertOf (Refused x) d = InsertAnswer.Refused x
+insertOf Accepted d = InsertAnswer.Inserted (d .moves)
+
+insert-back : (a : InsertAnswer) → Back insertPaper (λ d. d .number) insertOf a
+insert-back (InsertAnswer.Refused x) = (Refused x, refl, refl)
+insert-back (InsertAnswer.Inserted n) = (Accepted, refl, refl)
 
 pub insert-told : (a b : InsertAnswer) → insertPaper a ≡ insertPaper b → a ≡ b
-insert-told a b e = sym (insert-back a) ∙ ap insertOf e ∙ insert-back b
+insert-told = told insertPaper (λ d. d .number) insertOf insert-back
+
+abbrev deleteOf : Verdict → Answer → DeleteAnswer
+deleteOf (Refused x) d = DeleteAnswer.Refused x
+deleteOf Accepted d = if d .sparse then DeleteAnswer.DeletedSparse (d .moves) else DeleteAnswer.Deleted (d .moves)
+
+delete-back : (a : DeleteAnswer) → Back deletePaper (λ d. d .number) deleteOf a
+delete-back (DeleteAnswer.Refused x) = (Refused x, refl, refl)
+delete-back (DeleteAnswer.Deleted n) = (Accepted, refl, refl)
+delete-back (DeleteAnswer.DeletedSparse n) = (Accepted, refl, refl)
 
 pub delete-told : (a b : DeleteAnswer) → deletePaper a ≡ deletePaper b → a ≡ b
-delete-told a b e = sym (delete-back a) ∙ ap deleteOf e ∙ delete-back b
+delete-told = told deletePaper (λ d. d .number) deleteOf delete-back

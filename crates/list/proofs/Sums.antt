@@ -11,6 +11,7 @@ use Rattle.lists.proofs.Computed.{all-at}
 use Rattle.slots.specs.Segments.{live, heightOf, segmentsOf}
 use Rattle.forecast.specs.declared.Forecast.{Forecast}
 use Rattle.forecast.specs.Cells.{forecastOf}
+use Rattle.rules.specs.declared.Refusal.the-variants.{WrongLength}
 use Rattle.rules.specs.declared.Request.{Request}
 use Rattle.rules.specs.declared.Request.the-variants.{Insert, Delete}
 use Rattle.rules.specs.Checks.{checkList, check}
@@ -30,7 +31,7 @@ use Rattle.list.specs.declared.DeleteAnswer.{DeleteAnswer}
 use Rattle.list.specs.declared.DeleteReply.{DeleteReply}
 use Rattle.list.specs.Answers.{scanPaper}
 use Rattle.list.specs.Admits.{MakeAdmits, CheckAdmits, LookupAdmits, ScanAdmits, InsertAdmits, DeleteAdmits}
-use Rattle.steps.proofs.Numbers.{wrong-length, list-first}
+use Rattle.checks.proofs.Numbers.{wrong-length, list-first}
 use Rattle.list.proofs.Replies.{make-refused, lookup-refused, scan-passed}
 use Rattle.list.proofs.KeysAbove.{refused-admits}
 use Rattle.list.proofs.Papers.{make-told, check-told, lookup-told, scan-told, insert-told, delete-told}
@@ -57,29 +58,29 @@ module _ (slots : List ℕ) (m : Mem (length slots) wrongLengths) where
   request-one : (q : Request) (F : Forecast) → request q slots F ≡ unchanged slots F 1
   request-one q F = request-unchecked q slots F (omega (arith, check-one F)) ∙ ap (unchanged slots F) (check-one F)
 
-  pub make-wrong : (r : MakeReply) (left : List ℕ) → MakeAdmits slots r left → (r .answer ≡ MakeAnswer.WrongLength) × (r .forecast ≡ forecastOf []) × (left ≡ slots)
+  pub make-wrong : (r : MakeReply) (left : List ℕ) → MakeAdmits slots r left → (r .answer ≡ MakeAnswer.Refused WrongLength) × (r .forecast ≡ forecastOf []) × (left ≡ slots)
   make-wrong r left a =
       let e = make-refused slots no-height in
-      (make-told (r .answer) MakeAnswer.WrongLength (a .answer ∙ ap (λ (d : Made). d .number) e), a .forecast ∙ ap (λ (d : Made). d .forecast) e, a .slots-left ∙ ap (λ (d : Made). d .slots) e)
+      (make-told (r .answer) (MakeAnswer.Refused WrongLength) (a .answer ∙ ap (λ (d : Made). d .number) e), a .forecast ∙ ap (λ (d : Made). d .forecast) e, a .slots-left ∙ ap (λ (d : Made). d .slots) e)
 
-  pub check-wrong : (F : Forecast) (r : CheckAnswer) → CheckAdmits slots F r → r ≡ CheckAnswer.WrongLength
-  check-wrong F r a = check-told r CheckAnswer.WrongLength (a .answer ∙ check-one F)
+  pub check-wrong : (F : Forecast) (r : CheckAnswer) → CheckAdmits slots F r → r ≡ CheckAnswer.Refused WrongLength
+  check-wrong F r a = check-told r (CheckAnswer.Refused WrongLength) (a .answer ∙ check-one F)
 
-  pub lookup-wrong : (y : ℕ) (r : LookupAnswer) → LookupAdmits slots y r → r ≡ LookupAnswer.WrongLength
-  lookup-wrong y r a = lookup-told r LookupAnswer.WrongLength (a .answer ∙ lookup-refused slots y refused ∙ ap notFound one)
+  pub lookup-wrong : (y : ℕ) (r : LookupAnswer) → LookupAdmits slots y r → r ≡ LookupAnswer.Refused WrongLength
+  lookup-wrong y r a = lookup-told r (LookupAnswer.Refused WrongLength) (a .answer ∙ lookup-refused slots y refused ∙ ap notFound one)
 
-  pub scan-wrong : (a : ℕ) (out : List ℕ) (r : ScanAnswer) (left : List ℕ) → ScanAdmits slots a out r left → (r ≡ ScanAnswer.WrongLength) × (left ≡ out)
-  scan-wrong a out r left p = scan-one slots a out r ScanAnswer.WrongLength left out p (refused-admits slots a out ScanAnswer.WrongLength 1 one (omega arith) refl)
+  pub scan-wrong : (a : ℕ) (out : List ℕ) (r : ScanAnswer) (left : List ℕ) → ScanAdmits slots a out r left → (r ≡ ScanAnswer.Refused WrongLength) × (left ≡ out)
+  scan-wrong a out r left p = scan-one slots a out r (ScanAnswer.Refused WrongLength) left out p (refused-admits slots a out WrongLength one)
 
-  pub insert-wrong : (F : Forecast) (y : ℕ) (r : InsertReply) (left : List ℕ) → InsertAdmits slots F y r left → (r .answer ≡ InsertAnswer.WrongLength) × (r .forecast ≡ F) × (left ≡ slots)
+  pub insert-wrong : (F : Forecast) (y : ℕ) (r : InsertReply) (left : List ℕ) → InsertAdmits slots F y r left → (r .answer ≡ InsertAnswer.Refused WrongLength) × (r .forecast ≡ F) × (left ≡ slots)
   insert-wrong F y r left a =
       let e = request-one (Insert y) F in
-      (insert-told (r .answer) InsertAnswer.WrongLength (a .answer ∙ ap (λ (d : Called). d .answer) e), a .forecast ∙ ap (λ (d : Called). d .forecast) e, a .slots-left ∙ ap (λ (d : Called). d .slots) e)
+      (insert-told (r .answer) (InsertAnswer.Refused WrongLength) (a .answer ∙ ap (λ (d : Called). d .answer) e), a .forecast ∙ ap (λ (d : Called). d .forecast) e, a .slots-left ∙ ap (λ (d : Called). d .slots) e)
 
-  pub delete-wrong : (F : Forecast) (y : ℕ) (r : DeleteReply) (left : List ℕ) → DeleteAdmits slots F y r left → (r .answer ≡ DeleteAnswer.WrongLength) × (r .forecast ≡ F) × (left ≡ slots)
+  pub delete-wrong : (F : Forecast) (y : ℕ) (r : DeleteReply) (left : List ℕ) → DeleteAdmits slots F y r left → (r .answer ≡ DeleteAnswer.Refused WrongLength) × (r .forecast ≡ F) × (left ≡ slots)
   delete-wrong F y r left a =
       let e = request-one (Delete y) F in
-      (delete-told (r .answer) DeleteAnswer.WrongLength (a .answer ∙ ap (λ (d : Called). d .answer) e), a .forecast ∙ ap (λ (d : Called). d .forecast) e, a .slots-left ∙ ap (λ (d : Called). d .slots) e)
+      (delete-told (r .answer) (DeleteAnswer.Refused WrongLength) (a .answer ∙ ap (λ (d : Called). d .answer) e), a .forecast ∙ ap (λ (d : Called). d .forecast) e, a .slots-left ∙ ap (λ (d : Called). d .slots) e)
 
 -- a live key above a exists
 abbrev Exceeds : List ℕ → ℕ → Type 0

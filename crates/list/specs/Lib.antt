@@ -1,5 +1,4 @@
 pub mod Answers
 pub mod Admits
 pub mod Chains
-pub mod Changes
 pub mod Scans

@@ -14,16 +14,18 @@ use crate::MakeAnswer;
 use crate::MakeReply;
 use crate::ScanAnswer;
 use forecast::Forecast;
+use rules::Refusal;
+use rules::Verdict;
 
 // Writes 0 in every slot and gives an empty forecast.
 pub fn make(list: &mut [u64]) -> MakeReply
     ensures { λ r. ⌜ MakeAdmits (now (list .entry)) r (now (list .exit)) ⌝ }
 {
     let forecast = Forecast::empty();
-    if slots::checking::height_of(list.len()) == 0 {
+    if reading::height_of(list.len()) == 0 {
         return MakeReply {
             forecast,
-            answer: MakeAnswer::WrongLength,
+            answer: MakeAnswer::Refused(Refusal::WrongLength),
         };
     }
     let n = list.len();
@@ -38,38 +40,23 @@ pub fn make(list: &mut [u64]) -> MakeReply
 pub fn check(list: &[u64], forecast: Forecast) -> CheckAnswer
     ensures { λ r. ⌜ CheckAdmits (now (list .entry)) forecast r ⌝ }
 {
-    let n = steps::reading::look_over_both(list, forecast).number;
-    if n == 0 {
-        return CheckAnswer::Passed;
+    let verdict = checks::look_over_both(list, forecast).verdict;
+    match verdict {
+        Verdict::Refused(refusal) => CheckAnswer::Refused(refusal),
+        Verdict::Accepted => CheckAnswer::Passed,
     }
-    if n == 1 {
-        return CheckAnswer::WrongLength;
-    }
-    if n == 2 {
-        return CheckAnswer::WrongOrder;
-    }
-    if n == 3 {
-        return CheckAnswer::TooManyKeys;
-    }
-    CheckAnswer::WrongForecast
 }
 
 // Whether a key is live, and where.
 pub fn lookup(list: &[u64], key: u64) -> LookupAnswer
     ensures { λ r. ⌜ LookupAdmits (now (list .entry)) key r ⌝ }
 {
-    let n = steps::reading::look_over(list).number;
-    if n == 1 {
-        return LookupAnswer::WrongLength;
-    }
-    if n == 2 {
-        return LookupAnswer::WrongOrder;
-    }
-    if n == 3 {
-        return LookupAnswer::TooManyKeys;
+    let verdict = checks::look_over(list).verdict;
+    if let Verdict::Refused(refusal) = verdict {
+        return LookupAnswer::Refused(refusal);
     }
     if key == 0 {
-        return LookupAnswer::KeyZero;
+        return LookupAnswer::Refused(Refusal::KeyZero);
     }
     let place = slots::finding::locate(list, key);
     if place.present {
@@ -122,15 +109,9 @@ fn write_keys(list: &[u64], first: usize, at: usize, held: usize, output: &mut [
 pub fn scan(list: &[u64], from: u64, output: &mut [u64]) -> ScanAnswer
     ensures { λ r. ⌜ ScanAdmits (now (list .entry)) from (now (output .entry)) r (now (output .exit)) ⌝ }
 {
-    let n = steps::reading::look_over(list).number;
-    if n == 1 {
-        return ScanAnswer::WrongLength;
-    }
-    if n == 2 {
-        return ScanAnswer::WrongOrder;
-    }
-    if n == 3 {
-        return ScanAnswer::TooManyKeys;
+    let verdict = checks::look_over(list).verdict;
+    if let Verdict::Refused(refusal) = verdict {
+        return ScanAnswer::Refused(refusal);
     }
     let place = slots::finding::locate(list, from);
     if place.present {

@@ -1,13 +1,13 @@
 // The event list: make, check, lookup, insert, delete and scan, on arrays and forecast as they are lent.
 pub mod calls;
 pub mod changing;
-pub mod telling;
 
 use forecast::Forecast;
+use rules::Refusal;
 
-// Each answer has a variant for each refusal that its call can give, and one for each kind of acceptance.
+// Each answer is a refusal, or one of the kinds of acceptance of its call.
 pub enum MakeAnswer {
-    WrongLength,
+    Refused(Refusal),
     Made,
 }
 
@@ -17,38 +17,27 @@ pub struct MakeReply {
 }
 
 pub enum CheckAnswer {
-    WrongLength,
-    WrongOrder,
-    TooManyKeys,
-    WrongForecast,
+    Refused(Refusal),
     Passed,
 }
 
+// Present, with the segment.
 pub enum LookupAnswer {
-    WrongLength,
-    WrongOrder,
-    TooManyKeys,
-    KeyZero,
+    Refused(Refusal),
     Present(usize),
     Absent,
 }
 
+// With the number of keys written.
 pub enum ScanAnswer {
-    WrongLength,
-    WrongOrder,
-    TooManyKeys,
+    Refused(Refusal),
     Ended(usize),
     More(usize),
 }
 
+// With the moves.
 pub enum InsertAnswer {
-    WrongLength,
-    WrongOrder,
-    TooManyKeys,
-    WrongForecast,
-    KeyZero,
-    KeyPresent,
-    Full,
+    Refused(Refusal),
     Inserted(u64),
 }
 
@@ -58,12 +47,7 @@ pub struct InsertReply {
 }
 
 pub enum DeleteAnswer {
-    WrongLength,
-    WrongOrder,
-    TooManyKeys,
-    WrongForecast,
-    KeyZero,
-    KeyAbsent,
+    Refused(Refusal),
     Deleted(u64),
     DeletedSparse(u64),
 }

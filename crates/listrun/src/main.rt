@@ -43,16 +43,17 @@ fn main() {
     };
     let done = run::running::run_with(&mut slots, made.forecast, &input[..n], 1000000, totals);
     let reply = done.reply;
-    let after = done.totals;
+    let tally = reply.tally;
+    let stop = reply.stop;
     let a = slots::counting::count_keys(&slots[0..64]);
     let b = slots::counting::count_keys(&slots[64..128]);
     let c = slots::counting::count_keys(&slots[128..192]);
     let d = slots::counting::count_keys(&slots[192..256]);
     counts(
         (a + b + c + d) as u64,
-        reply.moves,
-        after.sweeps as u64,
-        reply.stop as u64,
+        tally.moves,
+        tally.sweeps as u64,
+        words::numbers::verdict_number(stop),
     );
     segment(0, a);
     segment(1, b);

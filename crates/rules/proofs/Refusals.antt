@@ -4,3 +4,4 @@ pub mod RowsInOrder
 pub mod Rows
 pub mod Row4
 pub mod Numbers
+pub mod Told

@@ -10,11 +10,12 @@ use Rattle.forecast.specs.declared.Forecast.{Forecast}
 use Rattle.forecast.specs.Cells.{usedCells, forecastOf}
 use Rattle.rules.specs.declared.Request.{Request}
 use Rattle.rules.specs.declared.Request.the-variants.{Insert, Delete}
+use Rattle.rules.specs.declared.Tally.{Tally}
 use Rattle.rules.specs.declared.Totals.{Totals}
 use Rattle.rules.specs.Placing.{Room, Answer, Outcome, refused, outcome}
 use Rattle.rules.specs.Looking.{Found, notFound, lookedUp, Scanned, scanned}
 use Rattle.rules.specs.Checks.{sharesOf, checkList, check}
-use Rattle.rules.specs.Runs.{Ran, ran, added}
+use Rattle.rules.specs.Runs.{nothing, Ran, ran, added}
 
 -- What slots and forecast show, and the slots and the forecast that show it.
 abbrev pub roomOf : List ℕ → Forecast → Room
@@ -66,14 +67,11 @@ insert slots F y = request (Insert y) slots F
 abbrev pub delete : List ℕ → Forecast → ℕ → Called
 delete slots F y = request (Delete y) slots F
 
--- A run tells records worked (refused ones included), records refused, moves, the stop number (0 at the end) and the byte place: where the
--- record that stopped it begins, or the length of the request bytes at the end.
+-- A run tells what it has counted, its byte place among it (where the record that stopped it begins, or the length of the request bytes at the
+-- end), and the stop number, 0 at the end.
 pub record Reply : Type 0 where
-  pub worked : ℕ
-  pub refused : ℕ
-  pub moves : ℕ
+  pub tally : Tally
   pub stop : ℕ
-  pub place : ℕ
 
 pub record Worked : Type 0 where
   pub slots : List ℕ
@@ -87,7 +85,7 @@ stoppedAtOnce slots F T n = record {
   slots = slots;
   forecast = F;
   totals = T;
-  reply = record { worked = 0; refused = 0; moves = 0; stop = n; place = 0 };
+  reply = record { tally = nothing; stop = n };
 }
 
 abbrev pub worked : Totals → Ran → Worked
@@ -95,13 +93,7 @@ worked T r = record {
   slots = render 0 (r .room .segments);
   forecast = forecastOf (r .room .cells);
   totals = added T (r .tally);
-  reply = record {
-    worked = r .tally .worked;
-    refused = r .tally .refused;
-    moves = r .tally .moves;
-    stop = r .stop;
-    place = r .tally .place;
-  };
+  reply = record { tally = r .tally; stop = r .stop };
 }
 
 -- A run checks list and forecast once, then works the records in order.

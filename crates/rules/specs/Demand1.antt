@@ -16,6 +16,7 @@ use Rattle.rules.specs.declared.Request.the-variants.{Bad}
 use Rattle.rules.specs.declared.Totals.{Totals}
 use Rattle.rules.specs.Placing.{outcome}
 use Rattle.rules.specs.Looking.{notFound}
+use Rattle.rules.specs.declared.Tally.{Tally}
 use Rattle.rules.specs.Runs.{one, recordsOf, added}
 use Rattle.rules.specs.Checks.{sharesOf, check}
 use Rattle.rules.specs.Calls.{roomOf, make, lookup, scan, request, insert, delete, unchanged, Worked, stoppedAtOnce, run}
@@ -48,8 +49,8 @@ DeleteTells = (slots : List ℕ) (F : Forecast) (y : ℕ) → Roomy F → Tells 
 abbrev pub RunTells : Type 0
 RunTells = (slots : List ℕ) (F : Forecast) (bytes : List ℕ) (allowance : ℕ) (T : Totals) → check slots F ≡ 0
     → Tells (stopRows bytes allowance (run slots F bytes allowance T)) (run slots F bytes allowance T .reply .stop)
-    × (run slots F bytes allowance T .reply .stop ≡ 0 → run slots F bytes allowance T .reply .place ≡ length bytes)
-    × (run slots F bytes allowance T .reply .moves ≤ allowance)
+    × (run slots F bytes allowance T .reply .stop ≡ 0 → run slots F bytes allowance T .reply .tally .place ≡ length bytes)
+    × (run slots F bytes allowance T .reply .tally .moves ≤ allowance)
 
 -- WHAT A REFUSAL LEAVES
 abbrev pub RequestRefused : Type 0
@@ -76,14 +77,11 @@ pub record SameBut (W U : Worked) : Type 0 where
   pub slots : U .slots ≡ W .slots
   pub forecast : U .forecast ≡ W .forecast
   pub totals : U .totals ≡ W .totals
-  pub worked : U .reply .worked ≡ W .reply .worked
-  pub refused : U .reply .refused ≡ W .reply .refused
-  pub moves : U .reply .moves ≡ W .reply .moves
-  pub place : U .reply .place ≡ W .reply .place
+  pub tally : U .reply .tally ≡ W .reply .tally
 
 abbrev pub RunStops : Type 0
 RunStops = (slots : List ℕ) (F : Forecast) (bytes : List ℕ) (allowance : ℕ) (T : Totals) → check slots F ≡ 0
-    → SameBut (run slots F bytes allowance T) (run slots F (take (run slots F bytes allowance T .reply .place) bytes) allowance T)
+    → SameBut (run slots F bytes allowance T) (run slots F (take (run slots F bytes allowance T .reply .tally .place) bytes) allowance T)
 
 -- A RUN IS ITS SINGLE REQUESTS, one after the other.
 pub record Series : Type 0 where
@@ -109,19 +107,20 @@ singly (q ∷ qs) s = singly qs (next q s)
 abbrev pub begin : List ℕ → Forecast → Series
 begin slots F = record { slots = slots; forecast = F; refused = 0; moves = 0; sweeps = 0 }
 
+-- What the requests come to, counted as a run counts.
+abbrev pub counted : List Request → Series → Tally
+counted qs s = record { worked = length qs; refused = s .refused; moves = s .moves; sweeps = s .sweeps; place = 11 * length qs }
+
 pub record Equals (T : Totals) (qs : List Request) (s : Series) (W : Worked) : Type 0 where
-  pub worked : length qs ≡ W .reply .worked
   pub good : All (λ q. q ≢ Bad) qs
   pub slots : W .slots ≡ s .slots
   pub forecast : W .forecast ≡ s .forecast
-  pub refused : W .reply .refused ≡ s .refused
-  pub moves : W .reply .moves ≡ s .moves
-  pub place : W .reply .place ≡ 11 * length qs
-  pub totals : W .totals ≡ added T (record { worked = length qs; refused = s .refused; moves = s .moves; sweeps = s .sweeps; place = 11 * length qs })
+  pub tally : W .reply .tally ≡ counted qs s
+  pub totals : W .totals ≡ added T (counted qs s)
 
 abbrev pub RunIsSingly : Type 0
 RunIsSingly = (slots : List ℕ) (F : Forecast) (bytes : List ℕ) (allowance : ℕ) (T : Totals) → Roomy F → check slots F ≡ 0
-    → (qs : List Request) → qs ≡ take (run slots F bytes allowance T .reply .worked) (recordsOf bytes)
+    → (qs : List Request) → qs ≡ take (run slots F bytes allowance T .reply .tally .worked) (recordsOf bytes)
     → Equals T qs (singly qs (begin slots F)) (run slots F bytes allowance T)
 
 -- VALID STAYS VALID
@@ -141,15 +140,18 @@ inTwo W U = record {
   forecast = U .forecast;
   totals = U .totals;
   reply = record {
-    worked = W .reply .worked + U .reply .worked;
-    refused = W .reply .refused + U .reply .refused;
-    moves = W .reply .moves + U .reply .moves;
+    tally = record {
+      worked = W .reply .tally .worked + U .reply .tally .worked;
+      refused = W .reply .tally .refused + U .reply .tally .refused;
+      moves = W .reply .tally .moves + U .reply .tally .moves;
+      sweeps = W .reply .tally .sweeps + U .reply .tally .sweeps;
+      place = W .reply .tally .place + U .reply .tally .place;
+    };
     stop = U .reply .stop;
-    place = W .reply .place + U .reply .place;
   };
 }
 
 abbrev pub RunInTwo : Type 0
 RunInTwo = (slots : List ℕ) (F : Forecast) (first rest : List ℕ) (allowance : ℕ) (T : Totals) → run slots F first allowance T .reply .stop ≡ 0
     → let W : Worked = run slots F first allowance T in
-    run slots F (first ++ rest) allowance T ≡ inTwo W (run (W .slots) (W .forecast) rest (allowance - W .reply .moves) (W .totals))
+    run slots F (first ++ rest) allowance T ≡ inTwo W (run (W .slots) (W .forecast) rest (allowance - W .reply .tally .moves) (W .totals))

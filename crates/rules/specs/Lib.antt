@@ -1,3 +1,4 @@
+pub mod Refusals
 pub mod Shares
 pub mod Placing
 pub mod SharingOut

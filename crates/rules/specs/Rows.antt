@@ -106,8 +106,8 @@ abbrev pub row10 : List ℕ → ℕ → Worked → Row
 row10 bytes allowance W = record {
   no = 10;
   when =
-      (W .reply .place < length bytes)
-      × (allowance < W .reply .moves + request (requestOf (drop (W .reply .place) bytes)) (W .slots) (W .forecast) .answer .moves);
+      (W .reply .tally .place < length bytes)
+      × (allowance < W .reply .tally .moves + request (requestOf (drop (W .reply .tally .place) bytes)) (W .slots) (W .forecast) .answer .moves);
 }
 
 -- THE ROWS OF EACH CALL, in order of testing: of the list, of list and forecast, then the call's own.
@@ -128,7 +128,7 @@ deleteRows slots F y = bothRows slots F ++ (row5 y ∷ row7 slots y ∷ [])
 
 -- The rows by which a run stops, and all of a run's; W is what it did before its place.
 abbrev pub stopRows : List ℕ → ℕ → Worked → List Row
-stopRows bytes allowance W = row9 bytes (W .reply .place) ∷ row10 bytes allowance W ∷ []
+stopRows bytes allowance W = row9 bytes (W .reply .tally .place) ∷ row10 bytes allowance W ∷ []
 
 abbrev pub runRows : List ℕ → Forecast → List ℕ → ℕ → Worked → List Row
 runRows slots F bytes allowance W = bothRows slots F ++ stopRows bytes allowance W

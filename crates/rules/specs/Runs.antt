@@ -7,6 +7,7 @@ use lib.ListN.{length, take, drop, getD}
 use Rattle.lists.specs.Choice.{if_then_else_}
 use Rattle.rules.specs.declared.Request.{Request}
 use Rattle.rules.specs.declared.Request.the-variants.{Insert, Delete, Bad}
+use Rattle.rules.specs.declared.Tally.{Tally}
 use Rattle.rules.specs.declared.Totals.{Totals}
 use Rattle.rules.specs.Shares.{Shares}
 use Rattle.rules.specs.Placing.{Room, Outcome, outcome}
@@ -45,13 +46,6 @@ unfoldable pub recordsOf : List ℕ → List Request
 recordsOf bytes = records (length bytes) bytes
 
 -- What a run has counted: records worked (refused ones included), refused, moves, sweeps, and the byte place where the next begins.
-pub record Tally : Type 0 where
-  pub worked : ℕ
-  pub refused : ℕ
-  pub moves : ℕ
-  pub sweeps : ℕ
-  pub place : ℕ
-
 abbrev pub nothing : Tally
 nothing = record { worked = 0; refused = 0; moves = 0; sweeps = 0; place = 0 }
 

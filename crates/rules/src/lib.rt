@@ -1,5 +1,25 @@
 // Document 01 as definitions, in specs/, and their theorems, in proofs/. No code.
 
+// Why a call, a request or a record is refused: a variant for each of document 01's numbers, 1 to 10 in this order.
+pub enum Refusal {
+    WrongLength,
+    WrongOrder,
+    TooManyKeys,
+    WrongForecast,
+    KeyZero,
+    KeyPresent,
+    KeyAbsent,
+    Full,
+    BadRecord,
+    AllowancePassed,
+}
+
+// What a check, a step or a run comes to.
+pub enum Verdict {
+    Refused(Refusal),
+    Accepted,
+}
+
 // What a request record asks for. Bad is no request: it stands for a record that is short or has a wrong mark or kind.
 pub enum Request {
     Insert(u64),
@@ -14,4 +34,14 @@ pub struct Totals {
     pub refused: u32,
     pub moved: u32,
     pub sweeps: u32,
+}
+
+// What a run has counted: records worked (refused ones included), records refused, moves, sweeps, and the byte place of the next record.
+#[repr(C)]
+pub struct Tally {
+    pub worked: usize,
+    pub refused: usize,
+    pub moves: u64,
+    pub sweeps: usize,
+    pub place: usize,
 }

@@ -1,4 +1,3 @@
-pub mod KeyBytes
 pub mod Readings
 pub mod StepInRun
 pub mod MidRun

@@ -1,25 +1,39 @@
--- Any two outcomes of a run that its promise admits are equal.
+-- Any two outcomes of a run that its promise admits are equal, as verdicts and told in numbers.
 use mathlib.Core.Path.{_≡_, sym, _∙_}
 use mathlib.Core.List.{List}
 use Prim.Native.Nat.{ℕ}
 use Rattle.forecast.specs.declared.Forecast.{Forecast}
 use Rattle.rules.specs.declared.Totals.{Totals}
+use Rattle.rules.proofs.Refusals.Told.{verdict-told}
 use Rattle.run.specs.declared.Run.{Run}
-use Rattle.run.specs.Admits.{RunAdmits}
+use Rattle.run.specs.declared.ToldRun.{ToldRun}
+use Rattle.run.specs.Admits.{RunAdmits, RunTells}
 
-pub run-one : (slots : List ℕ) (F : Forecast) (bytes : List ℕ) (allowance : ℕ) (T : Totals) (r r′ : Run) (left left′ : List ℕ)
-    → RunAdmits slots F bytes allowance T r left → RunAdmits slots F bytes allowance T r′ left′ → (r ≡ r′) × (left ≡ left′)
-run-one slots F bytes allowance T r r′ left left′ a b = (
-  λ i. record {
-    reply = record {
-      worked = (a .worked ∙ sym (b .worked)) i;
-      refused = (a .refused ∙ sym (b .refused)) i;
-      moves = (a .moves ∙ sym (b .moves)) i;
-      stop = (a .stop ∙ sym (b .stop)) i;
-      place = (a .place ∙ sym (b .place)) i;
-      forecast = (a .forecast ∙ sym (b .forecast)) i;
-    };
-    totals = (a .totals ∙ sym (b .totals)) i;
-  },
-  a .slots-left ∙ sym (b .slots-left),
-)
+module _ (slots : List ℕ) (F : Forecast) (bytes : List ℕ) (allowance : ℕ) (T : Totals) where
+  pub run-one : (r r′ : Run) (left left′ : List ℕ)
+      → RunAdmits slots F bytes allowance T r left → RunAdmits slots F bytes allowance T r′ left′ → (r ≡ r′) × (left ≡ left′)
+  run-one r r′ left left′ a b = (
+    λ i. record {
+      reply = record {
+        forecast = (a .forecast ∙ sym (b .forecast)) i;
+        tally = (a .tally ∙ sym (b .tally)) i;
+        stop = verdict-told (r .reply .stop) (r′ .reply .stop) (a .stop ∙ sym (b .stop)) i;
+      };
+      totals = (a .totals ∙ sym (b .totals)) i;
+    },
+    a .slots-left ∙ sym (b .slots-left),
+  )
+
+  pub told-one : (r r′ : ToldRun) (left left′ : List ℕ)
+      → RunTells slots F bytes allowance T r left → RunTells slots F bytes allowance T r′ left′ → (r ≡ r′) × (left ≡ left′)
+  told-one r r′ left left′ a b = (
+    λ i. record {
+      told = record {
+        forecast = (a .forecast ∙ sym (b .forecast)) i;
+        tally = (a .tally ∙ sym (b .tally)) i;
+        stop = (a .stop ∙ sym (b .stop)) i;
+      };
+      totals = (a .totals ∙ sym (b .totals)) i;
+    },
+    a .slots-left ∙ sym (b .slots-left),
+  )

@@ -1,21 +1,17 @@
-// Runs of request records: the parser of the house form, the run with its allowance, and the totals.
-pub mod records;
+// Runs of request records: the run with its allowance, and the totals.
 pub mod running;
 pub mod totals;
 
 use forecast::Forecast;
+use rules::Tally;
 use rules::Totals;
+use rules::Verdict;
 
-// What a run tells: records worked (refused ones included), records refused, moves, the stop number and the byte place; and the forecast
-// that it hands back.
-#[repr(C)]
+// What a run comes to: the forecast that it hands back, what it has counted, and what refused or stopped it, if anything did.
 pub struct Reply {
-    pub worked: usize,
-    pub refused: usize,
-    pub moves: u64,
-    pub stop: usize,
-    pub place: usize,
     pub forecast: Forecast,
+    pub tally: Tally,
+    pub stop: Verdict,
 }
 
 // That, with the totals then.
@@ -24,18 +20,15 @@ pub struct Run {
     pub totals: Totals,
 }
 
-// What a run has counted so far.
-pub struct Tally {
-    pub worked: usize,
-    pub refused: usize,
-    pub moves: u64,
-    pub sweeps: usize,
-    pub place: usize,
-}
-
-// How the records of a run ended: the forecast then, what was counted, and the stop number.
-pub struct Ended {
+// The same in numbers, as C programs take it.
+#[repr(C)]
+pub struct Told {
     pub forecast: Forecast,
     pub tally: Tally,
-    pub stop: usize,
+    pub stop: u64,
+}
+
+pub struct ToldRun {
+    pub told: Told,
+    pub totals: Totals,
 }

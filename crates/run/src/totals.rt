@@ -1,12 +1,13 @@
 // The four totals of runs, each modulo 2^32.
 ghost use mathlib.Core.Path.{_≡_};
-ghost use Rattle.run.specs.Sums.{addedTally, since};
-use crate::Tally;
+ghost use Rattle.rules.specs.Runs.{added};
+ghost use Rattle.run.specs.Sums.{since};
+use rules::Tally;
 use rules::Totals;
 
 // The totals with what a run has counted added.
 pub fn add_tally(t: Totals, tally: Tally) -> Totals
-    ensures { λ r. ⌜ r ≡ addedTally t tally ⌝ }
+    ensures { λ r. ⌜ r ≡ added t tally ⌝ }
 {
     Totals {
         worked: std::num::wrapping_add_u32(t.worked, (tally.worked % 4294967296) as u32),

@@ -26,7 +26,7 @@ use Rattle.forecast.specs.declared.Forecast.{Forecast}
 use Rattle.forecast.specs.Cells.{cells, zeroCell, usedCells, cellAt, weight}
 use Rattle.forecast.specs.Tidy.{Tidy, Fitting}
 use Rattle.forecast.proofs.Stepping.{cells-used, cell-is}
-use Rattle.sharing.specs.Marks.{weightBelow, Marked}
+use Rattle.planning.specs.Marks.{weightBelow, Marked}
 use Rattle.sharing.specs.Steps.{OneMarked}
 use Rattle.sharing.proofs.Inserted.{all-inserted, length-inserted}
 use Rattle.sharing.proofs.Spots.{only-at, total-added, total-zero, absent-sum, present-sum, below-inserted, rising-inserted}

@@ -1,14 +1,3 @@
-pub mod Rows
-pub mod Products
-pub mod NextMark
-pub mod Weighing
-pub mod Valley
-pub mod Looks
-pub mod Parts
-pub mod Scanning
-pub mod Splitting
-pub mod Lent
-pub mod Levels
 pub mod CellMarks
 pub mod Halves
 pub mod Inserted

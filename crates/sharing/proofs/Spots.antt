@@ -14,7 +14,7 @@ use Rattle.lists.specs.Lists.{All, total, insertAt}
 use Rattle.lists.specs.Search.{placeBy}
 use Rattle.lists.proofs.Members.{at-mem}
 use Rattle.slots.specs.Keys.{Rising}
-use Rattle.sharing.specs.Marks.{weightBelow}
+use Rattle.planning.specs.Marks.{weightBelow}
 use Rattle.sharing.proofs.Inserted.{all-inserted}
 
 -- w for the key y, and 0 for any other

@@ -7,11 +7,11 @@ ghost use Rattle.lists.specs.Lists.{insertAt};
 ghost use Rattle.slots.specs.Keys.{Rising};
 ghost use Rattle.forecast.specs.Cells.{usedCells, weight};
 ghost use Rattle.forecast.specs.Tidy.{Tidy, Fitting};
-ghost use Rattle.sharing.specs.Marks.{Marked};
+ghost use Rattle.planning.specs.Marks.{Marked};
 ghost use Rattle.sharing.specs.Steps.{OneMarked};
-use crate::passing::mark_from;
 use forecast::Cell;
 use forecast::Forecast;
+use planning::passing::mark_from;
 use slots::finding::position;
 
 // `v` put in front of the number at `k`, of the first `n`.

@@ -10,13 +10,8 @@ pub mod Padded
 pub mod Render
 pub mod Carried
 pub mod ByPlace
-pub mod Stretched
-pub mod Eights
-pub mod Readers
-pub mod SegmentReads
 pub mod Halving
 pub mod Seats
 pub mod Heads
 pub mod Tallies
-pub mod SegmentCounts
 pub mod Standing

@@ -1,5 +1,4 @@
-// The list a classroom lends: counting, search and reading of its slots.
-pub mod checking;
+// The list a classroom lends: counting and search of its slots, and what a reading of them finds.
 pub mod counting;
 pub mod finding;
 

@@ -18,7 +18,7 @@ use Rattle.rules.specs.Shares.{Shares, Lawful}
 use Rattle.rules.specs.SharingOut.{plan, shareOut}
 use Rattle.rules.specs.Readings.{Limits}
 use Rattle.rules.proofs.Sharing.SharingOut.{length-plan, total-plan, inside}
-use Rattle.sharing.specs.Plans.{Planned}
+use Rattle.planning.specs.Plans.{Planned}
 
 -- no share is above what a segment has slots
 high-fits : (S : Shares) → Lawful S → (l : ℕ) → l ≤ S .height → S .high l ≤ 64

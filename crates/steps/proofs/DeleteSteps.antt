@@ -24,26 +24,25 @@ use Rattle.rules.specs.Shares.{shares}
 use Rattle.rules.specs.Placing.{deleteLevel}
 use Rattle.rules.specs.Checks.{sharesOf}
 use Rattle.rules.specs.Calls.{roomOf}
-use Rattle.rules.proofs.Sharing.Table.{ends}
 use Rattle.rules.proofs.Sweeping.SweptWindow.{length-cut-in}
 use Rattle.rules.proofs.Requests.OutcomeCases.{outcome-delete-zero, outcome-delete-absent}
-use Rattle.steps.specs.declared.Effect.the-variants.{Over, KeyZero, KeyAbsent}
+use Rattle.rules.specs.declared.Refusal.the-variants.{KeyZero, KeyAbsent, AllowancePassed}
 use Rattle.steps.specs.Stepped.{Valid, Deleting, Unswept, idle, Steps}
-use Rattle.steps.proofs.FromValid.{height-valid, shows-valid, cells-valid}
+use Rattle.steps.proofs.FromValid.{shows-valid, cells-valid}
 use Rattle.steps.proofs.StepCases.{step-refused}
 use Rattle.steps.proofs.ShiftedOut.{out-bounds, shift-out-over}
 
 module _ (left y : ℕ) (slots : List ℕ) (F : Forecast) (h n : ℕ) (v : Valid slots F h n) where
   -- key 0
   pub delete-zero : y ≡ 0 → Steps left (Delete y) slots F (idle KeyZero F n) slots
-  delete-zero e = step-refused left (Delete y) slots F n 5 (v .many) (outcome-delete-zero (sharesOf slots) y (roomOf slots F) e) (omega arith)
+  delete-zero e = step-refused left (Delete y) slots F n KeyZero (v .many) (outcome-delete-zero (sharesOf slots) y (roomOf slots F) e)
 
   module _ (z : y ≢ 0) (p : Place) (at : Located y (segmentsOf slots) p) where
     -- a key that is not there
     pub delete-absent : p .present ≡ false → Steps left (Delete y) slots F (idle KeyAbsent F n) slots
     delete-absent t =
         let m : member y (keys (segmentsOf slots)) ≡ false = sym (at .present) ∙ t in
-        step-refused left (Delete y) slots F n 7 (v .many) (outcome-delete-absent (sharesOf slots) y (roomOf slots F) z (rw m tt)) (omega arith)
+        step-refused left (Delete y) slots F n KeyAbsent (v .many) (outcome-delete-absent (sharesOf slots) y (roomOf slots F) z (rw m tt))
 
     module _ (t : p .present ≡ true) where
       -- no refusal: y's cell is dropped in N
@@ -52,16 +51,15 @@ module _ (left y : ℕ) (slots : List ℕ) (F : Forecast) (h n : ℕ) (v : Valid
           let m : member y (keys (segmentsOf slots)) ≡ true = sym (at .present) ∙ t in
           record { valid = v; live = rw m tt; place = at; after = b }
 
-      -- of 8 keys or more 7 stay: no sweep
-      pub delete-keeps : 8 ≤ p .held → Unswept slots h y
+      -- where its segment keeps its low share: no sweep
+      pub delete-keeps : shares h .low 0 < p .held → Unswept slots h y
       unfolding deleteLevel
       delete-keeps k =
           let m : member y (keys (segmentsOf slots)) ≡ true = sym (at .present) ∙ t in
           let l : T (member y (keys (segmentsOf slots))) = rw m tt in
           let e : p .held ≡ length (getD (segmentsOf slots) (segmentOf (segmentsOf slots) y) []) = at .held ∙ ap (λ (s : ℕ). length (getD (segmentsOf slots) s [])) (seat-live y (segmentsOf slots) l) in
-          let r = height-valid slots F h n v in
           rw (le-ltb (length (cut y (getD (segmentsOf slots) (segmentOf (segmentsOf slots) y) []))) (shares h .low 0)
-          (omega (arith, ends h (r .0) (r .1) .1, length-cut-in y (segmentsOf slots) (shows-valid slots F h n v .listed) (member→mem y (keys (segmentsOf slots)) l)))) refl
+          (omega (arith, length-cut-in y (segmentsOf slots) (shows-valid slots F h n v .listed) (member→mem y (keys (segmentsOf slots)) l)))) refl
 
       -- the forecast without its cell
       without-cell : Deleting slots F (forecastOf (dropped y (usedCells F))) h n y p
@@ -71,5 +69,5 @@ module _ (left y : ℕ) (slots : List ℕ) (F : Forecast) (h n : ℕ) (v : Valid
       delete-under = out-bounds slots F _ h n y p without-cell .2
 
       -- where no window is swept, its moves are over what is left
-      pub delete-over : Unswept slots h y → left < p .held - p .at - 1 → Steps left (Delete y) slots F (idle Over F n) slots
+      pub delete-over : Unswept slots h y → left < p .held - p .at - 1 → Steps left (Delete y) slots F (idle AllowancePassed F n) slots
       delete-over u l = shift-out-over slots F _ h n y p without-cell u left l

@@ -1,7 +1,7 @@
 -- What is known of a list and forecast that are `Valid`: the rules' own statements of it, and the bounds that code needs.
 use mathlib.Core.Path.{_≡_, ap, _∙_, subst}
 use mathlib.Core.List.{List}
-use Prim.Native.Nat.{ℕ, _*_, _/_, _^_, _≤_}
+use Prim.Native.Nat.{ℕ, _*_, _^_, _≤_}
 use native.Mathlib.Nat.{pow-le-pow-right}
 use native.Mathlib.Omega.{arith}
 use lib.ListN.{length}
@@ -12,7 +12,7 @@ use Rattle.forecast.specs.declared.Forecast.{Forecast}
 use Rattle.forecast.specs.Cells.{usedCells}
 use Rattle.forecast.specs.Tidy.{Tidy}
 use Rattle.forecast.proofs.Became.{is-became}
-use Rattle.rules.specs.Shares.{Shares, shares, capacity}
+use Rattle.rules.specs.Shares.{Shares, shares}
 use Rattle.rules.specs.Checks.{sharesOf, checkList}
 use Rattle.rules.specs.Calls.{roomOf}
 use Rattle.forecast.specs.Tidy.{Roomy}
@@ -20,7 +20,7 @@ use Rattle.rules.proofs.Sharing.Table.{ends}
 use Rattle.rules.proofs.Requests.StaysGood.{Good}
 use Rattle.rules.proofs.Requests.Checked.{Passed, passed, list-passes, checked, keys-shown, forecast-shown}
 use Rattle.steps.specs.Stepped.{Valid}
-use Rattle.steps.proofs.Valid.{shows-passed, long-passed, capacity-passed}
+use Rattle.rules.proofs.Requests.Shown.{shows-passed, long-passed}
 
 module _ (slots : List ℕ) (F : Forecast) (h n : ℕ) (v : Valid slots F h n) where
   list-valid : checkList slots ≡ 0
@@ -63,10 +63,6 @@ module _ (slots : List ℕ) (F : Forecast) (h n : ℕ) (v : Valid slots F h n) w
 
   pub few-valid : n ≤ 4096
   few-valid = omega (arith, v .many, only-length isKey slots, small-valid)
-
-  -- it holds up to half as many keys as slots
-  pub capacity-valid : capacity (sharesOf slots) ≡ length slots / 2
-  capacity-valid = capacity-passed slots list-valid
 
   -- the forecast has room for its cells, and is tidy
   pub cells-valid : length (usedCells F) ≤ 12

@@ -1,5 +1,3 @@
-pub mod Valid
-pub mod Numbers
 pub mod FromValid
 pub mod StepCases
 pub mod Places

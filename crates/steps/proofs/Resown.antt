@@ -19,7 +19,7 @@ use Rattle.rules.specs.Checks.{sharesOf}
 use Rattle.rules.specs.Calls.{roomOf}
 use Rattle.rules.proofs.Sharing.Table.{lawful}
 use Rattle.rules.proofs.Requests.StaysGood.{Good, good-next}
-use Rattle.steps.specs.declared.Effect.the-variants.{Done}
+use Rattle.rules.specs.declared.Verdict.the-variants.{Accepted}
 use Rattle.steps.specs.Stepped.{Valid, Steps}
 use Rattle.steps.proofs.FromValid.{height-valid, ends-valid, good-valid}
 use Rattle.steps.proofs.StepCases.{step-done}
@@ -46,6 +46,6 @@ module _ (slots : List ℕ) (F N : Forecast) (h n : ℕ) (v : Valid slots F h n)
   -- so the cells, aimed by a search in those slots, are the rules' cells
   pub resown : (left k : ℕ) (N′ : Forecast) (slots′ : List ℕ) → m ≤ left → slots′ ≡ render 0 ss → k ≡ length (keys ss)
       → ((ts : Segments) → Shows ts slots′ → Live ts N → Became (retargeted (segmentOf ts) (usedCells N)) N′)
-      → Steps left q slots F (record { effect = Done; forecast = N′; moves = m; swept = true; sparse = sparse; keys = k }) slots′
+      → Steps left q slots F (record { forecast = N′; verdict = Accepted; moves = m; swept = true; sparse = sparse; keys = k }) slots′
   resown left k N′ slots′ l w e aim =
       step-done left q slots F ss (usedCells N) m true sparse o N′ k slots′ l (became-is (retargeted (segmentOf ss) (usedCells N)) N′ (aim ss (shows-after slots′ w) live-after)) e w

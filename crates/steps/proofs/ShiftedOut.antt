@@ -29,7 +29,8 @@ use Rattle.rules.specs.Checks.{sharesOf}
 use Rattle.rules.specs.Calls.{roomOf}
 use Rattle.rules.proofs.Requests.OutcomeCases.{length-keys-cut, delete-stays}
 use Rattle.rules.proofs.Sweeping.Unswept.{unswept-delete}
-use Rattle.steps.specs.declared.Effect.the-variants.{Over, Done}
+use Rattle.rules.specs.declared.Refusal.the-variants.{AllowancePassed}
+use Rattle.rules.specs.declared.Verdict.the-variants.{Accepted}
 use Rattle.steps.specs.Stepped.{Deleting, Unswept, idle, Steps}
 use Rattle.steps.proofs.FromValid.{good-valid, shows-valid, some-valid, small-valid, keys-valid}
 use Rattle.steps.proofs.StepCases.{step-over, step-done}
@@ -102,12 +103,12 @@ module _ (slots : List ℕ) (F N : Forecast) (h n y : ℕ) (p : Place) (D : Dele
 
     module _ (left : ℕ) where
       -- its moves are over what is left
-      pub shift-out-over : left < p .held - p .at - 1 → Steps left (Delete y) slots F (idle Over F n) slots
+      pub shift-out-over : left < p .held - p .at - 1 → Steps left (Delete y) slots F (idle AllowancePassed F n) slots
       shift-out-over l = step-over left (Delete y) slots F _ _ _ _ _ shifted n (D .valid .many) l
 
       -- they are not, and the segment has come back closed up
       pub shift-out-done : (a e : ℕ) (last : List ℕ) → p .held - p .at - 1 ≤ left → a ≡ 64 * p .segment → e ≡ a + 64 → last ≡ closed 0 (p .held) (p .at) (take (e - a) (drop a slots))
-          → Steps left (Delete y) slots F (record { effect = Done; forecast = N; moves = p .held - p .at - 1; swept = false; sparse = ltb (n - 1) (sparseBelow (shares h)); keys = n - 1 })
+          → Steps left (Delete y) slots F (record { forecast = N; verdict = Accepted; moves = p .held - p .at - 1; swept = false; sparse = ltb (n - 1) (sparseBelow (shares h)); keys = n - 1 })
           (putMid a (e - a) slots last)
       shift-out-done a e last l b d r = step-done left (Delete y) slots F _ _ _ _ _ shifted N (n - 1) (putMid a (e - a) slots last) l cells-aim
           (omega (arith, keys-cut-one))

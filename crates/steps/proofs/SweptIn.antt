@@ -29,7 +29,7 @@ use Rattle.rules.specs.Placing.{Outcome, accept, home, putIn, chosen, insertLev
 use Rattle.rules.specs.Readings.{Limits, Smallest}
 use Rattle.rules.specs.Checks.{sharesOf}
 use Rattle.rules.specs.Calls.{roomOf}
-use Rattle.rules.proofs.Sharing.Table.{lawful, ends}
+use Rattle.rules.proofs.Sharing.Table.{lawful}
 use Rattle.rules.proofs.Sharing.Climb.{climb-is}
 use Rattle.rules.proofs.Requests.StaysGood.{Good}
 use Rattle.rules.proofs.Sweeping.Sizes.{insert-always-finds}
@@ -39,7 +39,8 @@ use Rattle.rules.proofs.Requests.MoveBound.{length-insert}
 use Rattle.rules.proofs.Sharing.Weighing.{noted-good, front-ruled, fitting-noted}
 use Rattle.sharing.specs.declared.Climb.{Climb}
 use Rattle.sharing.specs.Climbs.{Climbed}
-use Rattle.steps.specs.declared.Effect.the-variants.{Over, Done}
+use Rattle.rules.specs.declared.Refusal.the-variants.{AllowancePassed}
+use Rattle.rules.specs.declared.Verdict.the-variants.{Accepted}
 use Rattle.steps.specs.Sweeps.{Weighs, Windowed, shared}
 use Rattle.steps.specs.Stepped.{Inserting, idle, Steps}
 use Rattle.steps.proofs.FromValid.{height-valid, shows-valid, some-valid, good-valid, keys-valid}
@@ -83,31 +84,26 @@ module _ (slots : List ℕ) (F N : Forecast) (h n y : ℕ) (p : Place) (I : Inse
   front-small l = rw (I .after .is) (omega (arith, height-valid slots F h n (I .valid), front-ruled (6 + h) _ _ (noted-good (shares h) y (roomOf slots F) good) l (home y (segmentsOf slots))))
 
   -- THE WINDOW that a climb finds, where the segment is full
-  module _ (full : 64 ≤ p .held) (r : Climb) (counts : List ℕ)
-      (climbed : (ts : Segments) (new : List ℕ) → Shows ts slots → 64 ≡ length (getD ts (p .segment) []) → length new ≡ 65 → Climbed h (p .segment) ts (set ts (p .segment) new) r counts) where
-    there : length (getD (segmentsOf slots) (home y (segmentsOf slots)) []) ≡ 64
+  module _ (full : shares h .high 0 ≤ p .held) (r : Climb) (counts : List ℕ)
+      (climbed : (ts : Segments) (new : List ℕ) → Shows ts slots → p .held ≡ length (getD ts (p .segment) []) → length new ≡ p .held + 1 → Climbed h (p .segment) ts (set ts (p .segment) new) r counts) where
+    there : length (getD (segmentsOf slots) (home y (segmentsOf slots)) []) ≡ p .held
     there =
-        let big : 64 ≤ length slots = omega (arith, some-valid slots F h n (I .valid)) in
-        omega (
-          arith,
-          ap (λ (k : ℕ). length (getD ss k [])) (place-home slots F N h n y p I),
-          place-held y (segmentsOf slots) slots p shows (I .place) big,
-          place-few y (segmentsOf slots) slots p shows (I .place) big,
-        )
+        ap (λ (k : ℕ). length (getD ss k [])) (sym (place-home slots F N h n y p I))
+        ∙ sym (place-held y (segmentsOf slots) slots p shows (I .place) (omega (arith, some-valid slots F h n (I .valid))))
 
-    longer : length (put y (getD (segmentsOf slots) (home y (segmentsOf slots)) [])) ≡ 65
+    longer : length (put y (getD (segmentsOf slots) (home y (segmentsOf slots)) [])) ≡ p .held + 1
     longer = omega (arith, there, length-put y (getD ss s []) (λ k m. not-member y (keys ss) (I .fresh) k (in-part ss s (omega (arith, inside, many)) k m)))
 
     known : Climbed h (home y (segmentsOf slots)) (segmentsOf slots) (putIn y (segmentsOf slots)) r counts
     known =
-        subst (λ (k : ℕ). (new : List ℕ) → 64 ≡ length (getD ss k []) → length new ≡ 65 → Climbed h k ss (set ss k new) r counts) (place-home slots F N h n y p I) (λ new e f. climbed ss new shows e f)
+        subst (λ (k : ℕ). (new : List ℕ) → p .held ≡ length (getD ss k []) → length new ≡ p .held + 1 → Climbed h k ss (set ss k new) r counts) (place-home slots F N h n y p I) (λ new e f. climbed ss new shows e f)
         (put y (getD ss s [])) (sym there) longer
 
     few : length (keys (segmentsOf slots)) < capacity (shares h)
     few = subst (λ (k : ℕ). length (keys (segmentsOf slots)) < capacity (shares k)) (I .valid .height) (omega (arith, I .room, keys-valid slots F h n (I .valid)))
 
     at-high : shares h .high 0 ≤ length (getD (segmentsOf slots) (home y (segmentsOf slots)) [])
-    at-high = omega (arith, there, ends h (height-valid slots F h n (I .valid) .0) (height-valid slots F h n (I .valid) .1) .0)
+    at-high = omega (arith, there)
 
     -- there is one
     found : (k : ℕ) × (insertLevel (shares h) y (segmentsOf slots) ≡ some k) × Smallest (shares h) (home y (segmentsOf slots)) (putIn y (segmentsOf slots)) k
@@ -141,7 +137,7 @@ module _ (slots : List ℕ) (F N : Forecast) (h n y : ℕ) (p : Place) (I : Inse
         ∙ ap₂ (λ (cs : List Cell) (m : ℕ). accept (sweep (shares h) (r .level) s cs (putIn y ss)) cs m true false) (sym (I .after .is)) (sym moves-are)
 
     -- over what is left: nothing changes
-    pub resow-in-over : (left : ℕ) → left < r .keys → Steps left (Insert y) slots F (idle Over F n) slots
+    pub resow-in-over : (left : ℕ) → left < r .keys → Steps left (Insert y) slots F (idle AllowancePassed F n) slots
     resow-in-over left l = step-over left (Insert y) slots F _ _ _ _ _ swept n (I .valid .many) l
 
     -- THE SWEEP, of the m segments from first on, in the slots from a to e
@@ -184,7 +180,7 @@ module _ (slots : List ℕ) (F N : Forecast) (h n y : ℕ) (p : Place) (I : Inse
         pub resow-in-done : (left : ℕ) (N′ : Forecast) (last : List ℕ) → r .keys ≤ left
             → last ≡ shared h (r .level) N front (put y (keys (segmentsOf (take (e - a) (drop a slots)))))
             → ((ts : Segments) → Shows ts (putMid a (e - a) slots last) → Live ts N → Became (retargeted (segmentOf ts) (usedCells N)) N′)
-            → Steps left (Insert y) slots F (record { effect = Done; forecast = N′; moves = r .keys; swept = true; sparse = false; keys = n + 1 }) (putMid a (e - a) slots last)
+            → Steps left (Insert y) slots F (record { forecast = N′; verdict = Accepted; moves = r .keys; swept = true; sparse = false; keys = n + 1 }) (putMid a (e - a) slots last)
         resow-in-done left N′ last l w aim =
             resown slots F N h n (I .valid) (Insert y) after (r .keys) false swept left (n + 1) N′ (putMid a (e - a) slots last) l
             (put-back ss slots shows (r .level) s m first a e size at-home from to _ last

@@ -27,7 +27,6 @@ use Rattle.rules.specs.Placing.{Outcome, accept, cutFrom, chosen, deleteLevel, 
 use Rattle.rules.specs.Readings.{Limits, Smallest}
 use Rattle.rules.specs.Checks.{sharesOf}
 use Rattle.rules.specs.Calls.{roomOf}
-use Rattle.rules.proofs.Sharing.Table.{ends}
 use Rattle.rules.proofs.Sharing.Climb.{climb-is}
 use Rattle.rules.proofs.Requests.StaysGood.{Good}
 use Rattle.rules.proofs.Sweeping.SweptWindow.{here-in, sweep-cut, there-window, length-cut-in, count-cut}
@@ -36,7 +35,8 @@ use Rattle.rules.proofs.Requests.MoveBound.{length-delete}
 use Rattle.rules.proofs.Sharing.Weighing.{dropped-good, front-ruled, fitting-dropped}
 use Rattle.sharing.specs.declared.Climb.{Climb}
 use Rattle.sharing.specs.Climbs.{Climbed}
-use Rattle.steps.specs.declared.Effect.the-variants.{Over, Done}
+use Rattle.rules.specs.declared.Refusal.the-variants.{AllowancePassed}
+use Rattle.rules.specs.declared.Verdict.the-variants.{Accepted}
 use Rattle.steps.specs.Sweeps.{Weighs, Windowed, shared}
 use Rattle.steps.specs.Stepped.{Deleting, Unswept, idle, Steps}
 use Rattle.steps.proofs.FromValid.{height-valid, shows-valid, some-valid, good-valid, keys-valid}
@@ -100,11 +100,11 @@ module _ (slots : List ℕ) (F N : Forecast) (h n y : ℕ) (p : Place) (D : Dele
   shorter : length (cut y (getD (segmentsOf slots) (segmentOf (segmentsOf slots) y) [])) ≡ p .held - 1
   shorter = omega (arith, there, length-cut-in y ss (shows .listed) mem)
 
-  -- WHAT A CLIMB FINDS, where that is under 7
-  module _ (few : p .held ≤ 7) (r : Climb) (counts : List ℕ)
+  -- WHAT A CLIMB FINDS, where that is under its low share
+  module _ (few : p .held ≤ shares h .low 0) (r : Climb) (counts : List ℕ)
       (climbed : (ts : Segments) (new : List ℕ) → Shows ts slots → p .held ≡ length (getD ts (p .segment) []) → length new ≡ p .held - 1 → Climbed h (p .segment) ts (set ts (p .segment) new) r counts) where
     under : length (cut y (getD (segmentsOf slots) (segmentOf (segmentsOf slots) y) [])) < shares h .low 0
-    under = omega (arith, shorter, held-some, ends h (height-valid slots F h n (D .valid) .0) (height-valid slots F h n (D .valid) .1) .1)
+    under = omega (arith, shorter, held-some)
 
     known : Climbed h (segmentOf (segmentsOf slots) y) (segmentsOf slots) (cutFrom y (segmentsOf slots)) r counts
     known =
@@ -142,7 +142,7 @@ module _ (slots : List ℕ) (F N : Forecast) (h n y : ℕ) (p : Place) (D : Dele
           ∙ ap (λ (m : ℕ). accept after (usedCells N) (r .keys) true (ltb m (sparseBelow (shares h)))) k
 
       -- over what is left: nothing changes
-      pub resow-out-over : (left : ℕ) → left < r .keys → Steps left (Delete y) slots F (idle Over F n) slots
+      pub resow-out-over : (left : ℕ) → left < r .keys → Steps left (Delete y) slots F (idle AllowancePassed F n) slots
       resow-out-over left l = step-over left (Delete y) slots F _ _ _ _ _ swept n (D .valid .many) l
 
       -- THE SWEEP, of the m segments from first on, in the slots from a to e
@@ -185,7 +185,7 @@ module _ (slots : List ℕ) (F N : Forecast) (h n y : ℕ) (p : Place) (D : Dele
           pub resow-out-done : (left : ℕ) (N′ : Forecast) (last : List ℕ) → r .keys ≤ left
               → last ≡ shared h (r .level) N front (cut y (keys (segmentsOf (take (e - a) (drop a slots)))))
               → ((ts : Segments) → Shows ts (putMid a (e - a) slots last) → Live ts N → Became (retargeted (segmentOf ts) (usedCells N)) N′)
-              → Steps left (Delete y) slots F (record { effect = Done; forecast = N′; moves = r .keys; swept = true; sparse = ltb (n - 1) (sparseBelow (shares h)); keys = n - 1 }) (putMid a (e - a) slots last)
+              → Steps left (Delete y) slots F (record { forecast = N′; verdict = Accepted; moves = r .keys; swept = true; sparse = ltb (n - 1) (sparseBelow (shares h)); keys = n - 1 }) (putMid a (e - a) slots last)
           resow-out-done left N′ last l w aim =
               resown slots F N h n (D .valid) (Delete y) after (r .keys) (ltb (n - 1) (sparseBelow (shares h))) swept left (n - 1) N′ (putMid a (e - a) slots last) l
               (put-back ss slots shows (r .level) s m first a e size at-seat from to _ last

@@ -1,3 +1,2 @@
-pub mod Listings
 pub mod Sweeps
 pub mod Stepped

@@ -11,7 +11,7 @@ use Rattle.forecast.specs.Cells.{usedCells, weight}
 use Rattle.forecast.specs.Tidy.{Tidy, Fitting}
 use Rattle.rules.specs.Shares.{shares}
 use Rattle.rules.specs.SharingOut.{shareOut}
-use Rattle.sharing.specs.Plans.{Planned}
+use Rattle.planning.specs.Plans.{Planned}
 
 -- A forecast that weighs: tidy, counts of at most 12, markers that differ.
 pub record Weighs (F : Forecast) : Type 0 where

@@ -2,21 +2,24 @@
 ghost use mathlib.Core.Path.{_≡_};
 ghost use Prim.Native.Nat.{_+_, _-_, _*_, _≤_, _<_};
 ghost use Rattle.rules.specs.declared.Request.{Request};
-ghost use Rattle.steps.specs.Stepped.{Inserting, Deleting, Unswept, Steps, idle};
-use crate::Effect;
-use crate::Step;
 ghost use lib.Dec.{ltb};
 ghost use Rattle.rules.specs.Shares.{shares, sparseBelow};
+ghost use Rattle.shares.specs.Rows.{Fetched};
+ghost use Rattle.steps.specs.Stepped.{Inserting, Deleting, Unswept, Steps, idle};
+use crate::Step;
 use forecast::Forecast;
+use rules::Refusal;
+use rules::Verdict;
+use shares::Shape;
 use slots::Place;
 
-// A step that changes nothing.
-pub fn nothing(effect: Effect, forecast: Forecast, keys: usize) -> Step
-    ensures { λ r. ⌜ r ≡ idle effect forecast keys ⌝ }
+// A step that is refused changes nothing.
+pub fn refuse(refusal: Refusal, forecast: Forecast, keys: usize) -> Step
+    ensures { λ r. ⌜ r ≡ idle refusal forecast keys ⌝ }
 {
     Step {
-        effect,
         forecast,
+        verdict: Verdict::Refused(refusal),
         moves: 0,
         swept: false,
         sparse: false,
@@ -31,11 +34,11 @@ pub fn shift_in(
     noted: Forecast,
     key: u64,
     place: Place,
-    h: usize,
+    shape: Shape,
     keys: usize,
     left: u64,
 ) -> Step
-    requires { ⌜ Inserting (now list) forecast noted h keys key place × (place .held < 64) × (place .held - place .at + 1 ≤ left) ⌝ }
+    requires { ⌜ Inserting (now list) forecast noted (shape .height) keys key place × (place .held < shares (shape .height) .high 0) × (place .held - place .at + 1 ≤ left) ⌝ }
     ensures { λ r. ⌜ Steps left (Request.Insert key) (now (list .entry)) forecast r (now (list .exit)) ⌝ }
 {
     let held = place.held;
@@ -46,8 +49,8 @@ pub fn shift_in(
     let moves = (held - at + 1) as u64;
     moves::open_gap(&mut list[a..e], held, at, key);
     Step {
-        effect: Effect::Done,
         forecast: noted,
+        verdict: Verdict::Accepted,
         moves,
         swept: false,
         sparse: false,
@@ -63,11 +66,11 @@ pub fn shift_out(
     dropped: Forecast,
     key: u64,
     place: Place,
-    h: usize,
+    shape: Shape,
     keys: usize,
     left: u64,
 ) -> Step
-    requires { ⌜ Deleting (now list) forecast dropped h keys key place × Unswept (now list) h key × (place .held - place .at - 1 ≤ left) ⌝ }
+    requires { ⌜ Deleting (now list) forecast dropped (shape .height) keys key place × Unswept (now list) (shape .height) key × (place .held - place .at - 1 ≤ left) × Fetched (shares (shape .height)) shape ⌝ }
     ensures { λ r. ⌜ Steps left (Request.Delete key) (now (list .entry)) forecast r (now (list .exit)) ⌝ }
 {
     let held = place.held;
@@ -78,19 +81,19 @@ pub fn shift_out(
     let moves = (held - at - 1) as u64;
     moves::close_gap(&mut list[a..e], held, at);
     Step {
-        effect: Effect::Done,
         forecast: dropped,
+        verdict: Verdict::Accepted,
         moves,
         swept: false,
-        sparse: is_sparse(keys - 1, h),
+        sparse: is_sparse(keys - 1, shape),
         keys: keys - 1,
     }
 }
 
-// A list of height `h` with so many keys is sparse.
-pub fn is_sparse(keys: usize, h: usize) -> bool
-    requires { ⌜ (1 ≤ h) × (h ≤ 6) ⌝ }
-    ensures { λ r. ⌜ r ≡ ltb keys (sparseBelow (shares h)) ⌝ }
+// A list of this shape with so many keys is sparse.
+pub fn is_sparse(keys: usize, shape: Shape) -> bool
+    requires { ⌜ Fetched (shares (shape .height)) shape ⌝ }
+    ensures { λ r. ⌜ r ≡ ltb keys (sparseBelow (shares (shape .height))) ⌝ }
 {
-    keys < 13 * sharing::table::power(h)
+    keys < shape.floor
 }

@@ -12,8 +12,10 @@ ghost use Rattle.slots.specs.Segments.{keys, segmentsOf};
 ghost use Rattle.slots.specs.Keys.{member, put, cut};
 ghost use Rattle.rules.specs.Shares.{shares};
 ghost use Rattle.rules.specs.SharingOut.{plan};
+ghost use Rattle.shares.specs.Rows.{Rows};
 ghost use Rattle.steps.specs.Sweeps.{Weighs, Packs, Windowed, shared};
 use forecast::Forecast;
+use shares::Shape;
 
 // How many of the first `m` slots, which are keys, each segment of a window gets: the keys that weigh are marked, and all are planned.
 fn plan_keys(
@@ -21,39 +23,38 @@ fn plan_keys(
     m: usize,
     forecast: Forecast,
     front: usize,
-    h: usize,
+    shape: Shape,
     level: usize,
     counts: &mut [usize],
 )
-    requires { ⌜ Packs h level m (now window) × Weighs forecast × (front ≤ 12) × (length (now counts) ≡ 2 ^ level) ⌝ }
+    requires { ⌜ Packs (shape .height) level m (now window) × Weighs forecast × (front ≤ 12) × (length (now counts) ≡ 2 ^ level) × Rows (shares (shape .height)) (shape .lows) (shape .highs) ⌝ }
     ensures range { λ _. ⌜ length (now (counts .exit)) ≡ length (now (counts .entry)) ⌝ }
-    ensures counts { λ _. ⌜ now (counts .exit) ≡ plan (shares h) level front (map (weight (usedCells forecast)) (take m (now (window .entry)))) ⌝ }
+    ensures counts { λ _. ⌜ now (counts .exit) ≡ plan (shares (shape .height)) level front (map (weight (usedCells forecast)) (take m (now (window .entry)))) ⌝ }
 {
     let mut at = [0; 12];
     let mut weights = [0; 12];
     let r = sharing::marking::mark(window, m, forecast, &mut at, &mut weights);
-    let part = sharing::parting::whole(&weights[..r], m, front);
-    let lows = sharing::table::lows(h);
-    let highs = sharing::table::highs(h);
-    sharing::planning::plan_window(
-        &at[..r],
-        &weights[..r],
-        part,
-        &lows[..7],
-        &highs[..7],
-        level,
-        counts,
-    );
+    let part = planning::parting::whole(&weights[..r], m, front);
+    let lows = shape.lows;
+    let highs = shape.highs;
+    planning::splitting::plan_window(&at[..r], &weights[..r], part, &lows, &highs, level, counts);
 }
 
 // The first `m` slots, which are keys, shared out over the whole window.
-fn deal_out(window: &mut [u64], m: usize, forecast: Forecast, front: usize, h: usize, level: usize)
-    requires { ⌜ Packs h level m (now window) × Weighs forecast × (front ≤ 12) ⌝ }
-    ensures { λ _. ⌜ now (window .exit) ≡ shared h level forecast front (take m (now (window .entry))) ⌝ }
+fn deal_out(
+    window: &mut [u64],
+    m: usize,
+    forecast: Forecast,
+    front: usize,
+    shape: Shape,
+    level: usize,
+)
+    requires { ⌜ Packs (shape .height) level m (now window) × Weighs forecast × (front ≤ 12) × Rows (shares (shape .height)) (shape .lows) (shape .highs) ⌝ }
+    ensures { λ _. ⌜ now (window .exit) ≡ shared (shape .height) level forecast front (take m (now (window .entry))) ⌝ }
 {
     let mut counts = [0; 64];
-    let n = sharing::table::power(level);
-    plan_keys(window, m, forecast, front, h, level, &mut counts[..n]);
+    let n = shares::power(level);
+    plan_keys(window, m, forecast, front, shape, level, &mut counts[..n]);
     moves::spread(window, &counts[..n], m);
 }
 
@@ -64,17 +65,17 @@ pub fn sweep_in(
     key: u64,
     forecast: Forecast,
     front: usize,
-    h: usize,
+    shape: Shape,
     level: usize,
 )
-    requires { ⌜ Windowed h level (length (keys (segmentsOf (now window))) + 1) (now counts) (now window) × Weighs forecast × (front ≤ 12) ⌝ }
+    requires { ⌜ Windowed (shape .height) level (length (keys (segmentsOf (now window))) + 1) (now counts) (now window) × Weighs forecast × (front ≤ 12) × Rows (shares (shape .height)) (shape .lows) (shape .highs) ⌝ }
     requires { ⌜ T (not (member key (keys (segmentsOf (now window))))) ⌝ }
-    ensures { λ _. ⌜ now (window .exit) ≡ shared h level forecast front (put key (keys (segmentsOf (now (window .entry))))) ⌝ }
+    ensures { λ _. ⌜ now (window .exit) ≡ shared (shape .height) level forecast front (put key (keys (segmentsOf (now (window .entry))))) ⌝ }
 {
     let m = moves::pack(window, counts);
     let p = slots::finding::position(window, m, key);
     moves::open_gap(window, m, p, key);
-    deal_out(window, m + 1, forecast, front, h, level);
+    deal_out(window, m + 1, forecast, front, shape, level);
 }
 
 // A window swept with `key` taken out. `counts` are those of its segments before.
@@ -84,17 +85,17 @@ pub fn sweep_out(
     key: u64,
     forecast: Forecast,
     front: usize,
-    h: usize,
+    shape: Shape,
     level: usize,
 )
-    requires { ⌜ Windowed h level (length (keys (segmentsOf (now window))) - 1) (now counts) (now window) × Weighs forecast × (front ≤ 12) ⌝ }
+    requires { ⌜ Windowed (shape .height) level (length (keys (segmentsOf (now window))) - 1) (now counts) (now window) × Weighs forecast × (front ≤ 12) × Rows (shares (shape .height)) (shape .lows) (shape .highs) ⌝ }
     requires { ⌜ T (member key (keys (segmentsOf (now window)))) ⌝ }
-    ensures { λ _. ⌜ now (window .exit) ≡ shared h level forecast front (cut key (keys (segmentsOf (now (window .entry))))) ⌝ }
+    ensures { λ _. ⌜ now (window .exit) ≡ shared (shape .height) level forecast front (cut key (keys (segmentsOf (now (window .entry))))) ⌝ }
 {
     let m = moves::pack(window, counts);
     let p = slots::finding::position(window, m, key);
     moves::close_gap(window, m, p);
-    deal_out(window, m - 1, forecast, front, h, level);
+    deal_out(window, m - 1, forecast, front, shape, level);
 }
 
 // The front's weight, in a window that begins at segment 0.

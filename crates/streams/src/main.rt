@@ -2,8 +2,8 @@
 // four totals, their difference to the reading before the run, and the number that the check gives of what it left.
 use forecast::Forecast;
 use libc::STDOUT_FILENO;
+use rules::Tally;
 use rules::Totals;
-use run::Reply;
 
 fn text(s: &[u8]) {
     io::write_all(STDOUT_FILENO, s);
@@ -21,12 +21,12 @@ fn four(name: &[u8], totals: Totals) {
     told(b" ", totals.sweeps as u64);
 }
 
-fn tell(reply: Reply, totals: Totals, added: Totals, check: u64) {
-    told(b" worked ", reply.worked as u64);
-    told(b" refused ", reply.refused as u64);
-    told(b" moves ", reply.moves);
-    told(b" stop ", reply.stop as u64);
-    told(b" place ", reply.place as u64);
+fn tell(tally: Tally, stop: u64, totals: Totals, added: Totals, check: u64) {
+    told(b" worked ", tally.worked as u64);
+    told(b" refused ", tally.refused as u64);
+    told(b" moves ", tally.moves);
+    told(b" stop ", stop);
+    told(b" place ", tally.place as u64);
     four(b" totals ", totals);
     four(b" added ", added);
     told(b" check ", check);
@@ -48,10 +48,17 @@ fn stream(name: &[u8], list: &mut [u64], forecast: Forecast, allowance: u64) -> 
     let reply = done.reply;
     let left = reply.forecast;
     let answer = list::calls::check(list, left);
-    let check = list::telling::check_number(answer);
+    let check = telling::check_number(answer);
     text(name);
     let after = done.totals;
-    tell(reply, after, run::totals::difference(after, before), check);
+    let stop = reply.stop;
+    tell(
+        reply.tally,
+        words::numbers::verdict_number(stop),
+        after,
+        run::totals::difference(after, before),
+        check,
+    );
     left
 }
 

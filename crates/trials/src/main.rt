@@ -4,7 +4,7 @@ ghost use Prim.Native.Nat.{_≤_, _<_, _+_};
 ghost use lib.ListN.{length};
 use forecast::Forecast;
 use libc::STDOUT_FILENO;
-use list::telling;
+use telling::Told;
 
 struct Command {
     ask: u8,
@@ -35,6 +35,10 @@ fn line(word: &[u8], a: u64, b: u64, c: u64) {
     number(b);
     number(c);
     text(b"\n");
+}
+
+fn told(name: &[u8], answer: Told) {
+    line(name, answer.number, answer.first, answer.second);
 }
 
 // What the slots hold, as one number.
@@ -136,12 +140,7 @@ fn ask_insert(slots: &mut [u64], room: Room, c: Command) -> Room {
     }
     let reply = list::changing::insert(&mut slots[..len], room.forecast, c.x);
     let answer = reply.answer;
-    line(
-        b"insert",
-        telling::insert_number(answer),
-        telling::insert_moves(answer),
-        0,
-    );
+    told(b"insert", telling::insert_told(answer));
     let forecast = reply.forecast;
     Room { len, forecast }
 }
@@ -154,12 +153,7 @@ fn ask_delete(slots: &mut [u64], room: Room, c: Command) -> Room {
     }
     let reply = list::changing::delete(&mut slots[..len], room.forecast, c.x);
     let answer = reply.answer;
-    line(
-        b"delete",
-        telling::delete_number(answer),
-        telling::delete_moves(answer),
-        telling::delete_sparse(answer),
-    );
+    told(b"delete", telling::delete_told(answer));
     let forecast = reply.forecast;
     Room { len, forecast }
 }
@@ -171,12 +165,7 @@ fn ask_lookup(slots: &[u64], room: Room, c: Command) {
         return;
     }
     let answer = list::calls::lookup(&slots[..len], c.x);
-    line(
-        b"lookup",
-        telling::lookup_number(answer),
-        telling::lookup_present(answer),
-        telling::lookup_segment(answer),
-    );
+    told(b"lookup", telling::lookup_told(answer));
 }
 
 // 5: scan from x into an output of y numbers, filled with 7 before.
@@ -195,12 +184,7 @@ fn scan_into(slots: &[u64], len: usize, c: Command, output: &mut [u64]) {
         return;
     }
     let answer = list::calls::scan(&slots[..len], c.x, &mut output[..n]);
-    line(
-        b"scan",
-        telling::scan_number(answer),
-        telling::scan_written(answer),
-        telling::scan_more(answer),
-    );
+    told(b"scan", telling::scan_told(answer));
     line(b"output", sum_of(output), 0, 0);
 }
 

@@ -1,7 +1,12 @@
-// A forecast as 37 words of 64 bits: used, then marker, segment and count of each of its 12 cells.
+// What travels as numbers, words and bytes: refusals, a forecast, totals, request records.
 ghost use mathlib.Core.Path.{_≡_};
 ghost use lib.ListN.{length};
 ghost use Rattle.words.specs.Words.{capped, forecastIn, forecastWords, saturated};
+
+pub mod numbers;
+pub mod records;
+pub mod totals;
+
 use forecast::Forecast;
 
 // A word as a byte: 255 for all that is over it.
@@ -23,7 +28,7 @@ fn narrow_used(x: u64) -> usize
     255
 }
 
-fn wide(x: u8) -> u64
+pub fn wide(x: u8) -> u64
     ensures { λ r. ⌜ r ≡ x ⌝ }
 {
     x as u64

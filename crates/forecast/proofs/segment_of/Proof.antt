@@ -1,16 +1,16 @@
 -- `forecast::segment_of` meets its contract: a search for a live key ends in its segment.
-use mathlib.Core.Path.{sym, _∙_}
+use mathlib.Core.Path.{sym, ap, _∙_}
 use mathlib.Core.Logic.{inl, inr}
 use native.Mathlib.Omega.{arith}
-use Rattle.slots.proofs.Keys.{mem→member}
+use Rattle.slots.specs.Keys.{segmentOf}
+use Rattle.slots.proofs.Keys.{mem→member, segment-front}
 use Rattle.slots.proofs.Seats.{seat-live}
-use Rattle.forecast.proofs.Checked.{front-is}
 use borrow.Author.Needs.{needs}
 use Rattle.forecast.proofs.segment_of.Statement.{statement}
 use Rattle.forecast.proofs.segment_of.Tie as tie
 
 returns : tie.Need-returns
-returns c = (omega arith, λ ss sh m. sym (front-is ss _ (c .if1 .taken)))
+returns c = (omega arith, λ ss sh m. sym (ap (segmentOf ss) (c .if1 .taken) ∙ segment-front ss))
 
 find-segment-requires : tie.Need-find-segment-requires
 find-segment-requires c κs = search needs

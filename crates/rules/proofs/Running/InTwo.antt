@@ -17,7 +17,8 @@ use Rattle.rules.specs.declared.Totals.{Totals}
 use Rattle.rules.specs.Shares.{Shares, shares}
 use Rattle.rules.specs.Placing.{Room, Outcome, outcome}
 use Rattle.rules.specs.Checks.{sharesOf, check}
-use Rattle.rules.specs.Runs.{recordsOf, isBad, Tally, nothing, one, tallied, Ran, stopped, work, ran, added}
+use Rattle.rules.specs.declared.Tally.{Tally}
+use Rattle.rules.specs.Runs.{recordsOf, isBad, nothing, one, tallied, Ran, stopped, work, ran, added}
 use Rattle.rules.specs.Calls.{roomOf, Worked, worked, run}
 use Rattle.rules.specs.Demand1.{inTwo, RunInTwo}
 use Rattle.rules.proofs.Running.Records.{records-drop, records-take}

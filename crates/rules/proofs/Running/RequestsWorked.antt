@@ -15,7 +15,8 @@ use Rattle.rules.specs.declared.Request.{Request}
 use Rattle.rules.specs.declared.Request.the-variants.{Insert, Bad}
 use Rattle.rules.specs.Shares.{Shares, shares}
 use Rattle.rules.specs.Placing.{Room, settled, insertLevel, insertKey, outcome}
-use Rattle.rules.specs.Runs.{isBad, Tally, nothing, tallied, Ran, stopped, work}
+use Rattle.rules.specs.declared.Tally.{Tally}
+use Rattle.rules.specs.Runs.{isBad, nothing, tallied, Ran, stopped, work}
 use Rattle.rules.proofs.Running.BadRecords.{not-bad}
 
 -- an insert of one move into an empty list, with no moves allowed: the run stops before it

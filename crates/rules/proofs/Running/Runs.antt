@@ -14,7 +14,8 @@ use Rattle.rules.specs.declared.Totals.{Totals}
 use Rattle.rules.specs.Shares.{Shares}
 use Rattle.rules.specs.Placing.{Room}
 use Rattle.rules.specs.Checks.{sharesOf, check}
-use Rattle.rules.specs.Runs.{recordsOf, Tally, nothing, Ran, stopped, work, ran}
+use Rattle.rules.specs.declared.Tally.{Tally}
+use Rattle.rules.specs.Runs.{recordsOf, nothing, Ran, stopped, work, ran}
 use Rattle.rules.specs.Calls.{roomOf, worked, run}
 use Rattle.rules.specs.Demand1.{RunRefused, RunStops}
 use Rattle.rules.proofs.Running.Records.{byte-of-record, record-of-byte, bytes-of-good, records-take}
@@ -78,4 +79,4 @@ pub run-stops : RunStops
 run-stops slots F bytes allowance T c =
     let r : Ran = ran (sharesOf slots) allowance bytes (roomOf slots F) in
     rw (run-checked slots F bytes allowance T c, run-checked slots F (take (r .tally .place) bytes) allowance T c, ran-again (sharesOf slots) allowance bytes (roomOf slots F))
-    (record { stop = refl; slots = refl; forecast = refl; totals = refl; worked = refl; refused = refl; moves = refl; place = refl })
+    (record { stop = refl; slots = refl; forecast = refl; totals = refl; tally = refl })

@@ -16,11 +16,12 @@ use Rattle.rules.specs.declared.Totals.{Totals}
 use Rattle.rules.specs.Shares.{Shares, shares}
 use Rattle.rules.specs.Placing.{Room, Outcome, outcome}
 use Rattle.rules.specs.Checks.{sharesOf, check}
-use Rattle.rules.specs.Runs.{Tally, nothing, one, tallied, recordsOf, Ran, ran, added}
+use Rattle.rules.specs.declared.Tally.{Tally}
+use Rattle.rules.specs.Runs.{nothing, one, tallied, recordsOf, Ran, ran, added}
 use Rattle.rules.specs.Calls.{roomOf, Called, unchanged, changed, request, Worked, worked}
 use Rattle.rules.specs.Rows.{Tells, row9, row10}
 use Rattle.forecast.specs.Tidy.{Roomy}
-use Rattle.rules.specs.Demand1.{Series, next, singly, begin, Equals, RunTells, RunIsSingly, RunKeeps}
+use Rattle.rules.specs.Demand1.{Series, next, singly, begin, counted, Equals, RunTells, RunIsSingly, RunKeeps}
 use Rattle.rules.proofs.Sharing.Table.{lawful}
 use Rattle.rules.proofs.Requests.Accepted.{refused-is}
 use Rattle.rules.proofs.Requests.StaysGood.{Good, good-next}
@@ -137,16 +138,19 @@ module _ (slots : List ℕ) (F : Forecast) (bytes : List ℕ) (allowance : ℕ) 
   number : length ds ≡ r .tally .worked
   number = length-done (shares h) allowance bytes R ∙ sym (done-worked (shares h) allowance bytes R)
 
+  place : r .tally .place ≡ 11 * length ds
+  place = done-place (shares h) allowance bytes R ∙ ap (λ (n : ℕ). 11 * n) (sym (length-done (shares h) allowance bytes R))
+
+  numbers : r .tally ≡ counted ds (seriesOf (r .room) (r .tally))
+  numbers = λ i. record { worked = sym number i; refused = r .tally .refused; moves = r .tally .moves; sweeps = r .tally .sweeps; place = place i }
+
   equals : Equals T ds (seriesOf (r .room) (r .tally)) (worked T r)
   equals = record {
-    worked = number;
     good = ran-works (shares h) allowance bytes R .good;
     slots = refl;
     forecast = refl;
-    refused = refl;
-    moves = refl;
-    place = done-place (shares h) allowance bytes R ∙ ap (λ (n : ℕ). 11 * n) (sym (length-done (shares h) allowance bytes R));
-    totals = λ i. added T (record { worked = sym number i; refused = r .tally .refused; moves = r .tally .moves; sweeps = r .tally .sweeps; place = 0 });
+    tally = numbers;
+    totals = ap (added T) numbers;
   }
 
 -- a run keeps a valid list valid
@@ -167,6 +171,6 @@ run-is-singly slots F bytes allowance T f c qs e =
     let S : Shares = sharesOf slots in
     let R : Room = roomOf slots F in
     let d : qs ≡ take (done S allowance bytes R) (recordsOf bytes) =
-    e ∙ ap (λ (W : Worked). take (W .reply .worked) (recordsOf bytes)) (run-checked slots F bytes allowance T c)
+    e ∙ ap (λ (W : Worked). take (W .reply .tally .worked) (recordsOf bytes)) (run-checked slots F bytes allowance T c)
     ∙ ap (λ (n : ℕ). take n (recordsOf bytes)) (done-worked S allowance bytes R) in
     rw (run-checked slots F bytes allowance T c, d, series slots F bytes allowance T c f) (equals slots F bytes allowance T c)

@@ -17,20 +17,14 @@ slice-aggregate-delete c = sym (length-take-le _ _ (search needs))
 delete-requires : tie.Need-delete-requires
 delete-requires c κs = search needs
 
-slice-aggregate-line : tie.Need-slice-aggregate-line
-slice-aggregate-line c = search needs
+slice-aggregate-told : tie.Need-slice-aggregate-told
+slice-aggregate-told c = search needs
 
-delete-number-requires : tie.Need-delete-number-requires
-delete-number-requires c κs = search needs
+delete-told-requires : tie.Need-delete-told-requires
+delete-told-requires c κs = search needs
 
-delete-moves-requires : tie.Need-delete-moves-requires
-delete-moves-requires c κs = search needs
-
-delete-sparse-requires : tie.Need-delete-sparse-requires
-delete-sparse-requires c κs = search needs
-
-line-requires : tie.Need-line-requires
-line-requires c κs = search needs
+told-requires : tie.Need-told-requires
+told-requires c κs = search needs
 
 same-length : tie.Need-same-length
 same-length c = search needs
@@ -46,10 +40,8 @@ ask-delete-spec =
     slice-relend-prefix-delete
     slice-aggregate-delete
     delete-requires
-    slice-aggregate-line
-    delete-number-requires
-    delete-moves-requires
-    delete-sparse-requires
-    line-requires
+    slice-aggregate-told
+    delete-told-requires
+    told-requires
     same-length
     returns-2)

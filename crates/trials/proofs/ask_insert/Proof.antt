@@ -17,17 +17,14 @@ slice-aggregate-insert c = sym (length-take-le _ _ (search needs))
 insert-requires : tie.Need-insert-requires
 insert-requires c κs = search needs
 
-slice-aggregate-line : tie.Need-slice-aggregate-line
-slice-aggregate-line c = search needs
+slice-aggregate-told : tie.Need-slice-aggregate-told
+slice-aggregate-told c = search needs
 
-insert-number-requires : tie.Need-insert-number-requires
-insert-number-requires c κs = search needs
+insert-told-requires : tie.Need-insert-told-requires
+insert-told-requires c κs = search needs
 
-insert-moves-requires : tie.Need-insert-moves-requires
-insert-moves-requires c κs = search needs
-
-line-requires : tie.Need-line-requires
-line-requires c κs = search needs
+told-requires : tie.Need-told-requires
+told-requires c κs = search needs
 
 same-length : tie.Need-same-length
 same-length c = search needs
@@ -43,9 +40,8 @@ ask-insert-spec =
     slice-relend-prefix-insert
     slice-aggregate-insert
     insert-requires
-    slice-aggregate-line
-    insert-number-requires
-    insert-moves-requires
-    line-requires
+    slice-aggregate-told
+    insert-told-requires
+    told-requires
     same-length
     returns-2)

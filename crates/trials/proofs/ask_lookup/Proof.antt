@@ -14,20 +14,14 @@ slice-aggregate-lookup c = sym (length-take-le _ _ (search needs))
 lookup-requires : tie.Need-lookup-requires
 lookup-requires c κs = search needs
 
-slice-aggregate-line : tie.Need-slice-aggregate-line
-slice-aggregate-line c = search needs
+slice-aggregate-told : tie.Need-slice-aggregate-told
+slice-aggregate-told c = search needs
 
-lookup-number-requires : tie.Need-lookup-number-requires
-lookup-number-requires c κs = search needs
+lookup-told-requires : tie.Need-lookup-told-requires
+lookup-told-requires c κs = search needs
 
-lookup-present-requires : tie.Need-lookup-present-requires
-lookup-present-requires c κs = search needs
-
-lookup-segment-requires : tie.Need-lookup-segment-requires
-lookup-segment-requires c κs = search needs
-
-line-requires : tie.Need-line-requires
-line-requires c κs = search needs
+told-requires : tie.Need-told-requires
+told-requires c κs = search needs
 
 returns-2 : tie.Need-returns-2
 returns-2 c = search needs
@@ -39,9 +33,7 @@ ask-lookup-spec =
     returns
     slice-aggregate-lookup
     lookup-requires
-    slice-aggregate-line
-    lookup-number-requires
-    lookup-present-requires
-    lookup-segment-requires
-    line-requires
+    slice-aggregate-told
+    lookup-told-requires
+    told-requires
     returns-2)

@@ -23,29 +23,23 @@ slice-aggregate-scan-2 c = sym (length-take-le _ _ (search needs))
 scan-requires : tie.Need-scan-requires
 scan-requires c κs = search needs
 
+slice-aggregate-told : tie.Need-slice-aggregate-told
+slice-aggregate-told c = search needs
+
+scan-told-requires : tie.Need-scan-told-requires
+scan-told-requires c κs = search needs
+
+told-requires : tie.Need-told-requires
+told-requires c κs = search needs
+
 slice-aggregate-line : tie.Need-slice-aggregate-line
 slice-aggregate-line c = search needs
-
-scan-number-requires : tie.Need-scan-number-requires
-scan-number-requires c κs = search needs
-
-scan-written-requires : tie.Need-scan-written-requires
-scan-written-requires c κs = search needs
-
-scan-more-requires : tie.Need-scan-more-requires
-scan-more-requires c κs = search needs
-
-line-requires : tie.Need-line-requires
-line-requires c κs = search needs
-
-slice-aggregate-line-2 : tie.Need-slice-aggregate-line-2
-slice-aggregate-line-2 c = search needs
 
 sum-of-requires : tie.Need-sum-of-requires
 sum-of-requires c κs = search needs
 
-line-requires-2 : tie.Need-line-requires-2
-line-requires-2 c κs = search needs
+line-requires : tie.Need-line-requires
+line-requires c κs = search needs
 
 same-length : tie.Need-same-length
 same-length c = search needs
@@ -63,13 +57,11 @@ scan-into-spec =
     slice-relend-prefix-scan
     slice-aggregate-scan-2
     scan-requires
+    slice-aggregate-told
+    scan-told-requires
+    told-requires
     slice-aggregate-line
-    scan-number-requires
-    scan-written-requires
-    scan-more-requires
-    line-requires
-    slice-aggregate-line-2
     sum-of-requires
-    line-requires-2
+    line-requires
     same-length
     returns-3)

@@ -13,14 +13,8 @@ returns c =
 lookup-requires : tie.Need-lookup-requires
 lookup-requires c κs = search needs
 
-lookup-number-requires : tie.Need-lookup-number-requires
-lookup-number-requires c κs = search needs
-
-lookup-present-requires : tie.Need-lookup-present-requires
-lookup-present-requires c κs = search needs
-
-lookup-segment-requires : tie.Need-lookup-segment-requires
-lookup-segment-requires c κs = search needs
+lookup-told-requires : tie.Need-lookup-told-requires
+lookup-told-requires c κs = search needs
 
 slice-write-reply : tie.Need-slice-write-reply
 slice-write-reply c = search needs
@@ -33,8 +27,8 @@ same-length c = search needs
 
 returns-2 : tie.Need-returns-2
 returns-2 c =
-    let a = c .before .before .before .before .before .before .before .args in
-    lookup-given (a .list .now) (a .key) (a .reply .now) (c .before .before .before .lookup .result) _ _ _ (c .before .before .before .before .if1 .left) (c .before .before .before .lookup .ensures) (c .before .before .lookup-number .ensures) (c .before .lookup-present .ensures) (c .lookup-segment .ensures)
+    let a = c .before .before .before .before .before .args in
+    lookup-given (a .list .now) (a .key) (a .reply .now) (c .before .lookup .result) (c .lookup-told .result) (c .before .before .if1 .left) (c .before .lookup .ensures) (c .lookup-told .ensures)
 
 pub ff-lookup-spec : {M : Type 1} → statement M
 ff-lookup-spec =
@@ -42,9 +36,7 @@ ff-lookup-spec =
     (tie.spec
     returns
     lookup-requires
-    lookup-number-requires
-    lookup-present-requires
-    lookup-segment-requires
+    lookup-told-requires
     slice-write-reply
     slice-write-reply-2
     same-length

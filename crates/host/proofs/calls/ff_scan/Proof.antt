@@ -13,14 +13,8 @@ returns c =
 scan-requires : tie.Need-scan-requires
 scan-requires c κs = search needs
 
-scan-number-requires : tie.Need-scan-number-requires
-scan-number-requires c κs = search needs
-
-scan-written-requires : tie.Need-scan-written-requires
-scan-written-requires c κs = search needs
-
-scan-more-requires : tie.Need-scan-more-requires
-scan-more-requires c κs = search needs
+scan-told-requires : tie.Need-scan-told-requires
+scan-told-requires c κs = search needs
 
 slice-write-reply : tie.Need-slice-write-reply
 slice-write-reply c = search needs
@@ -36,8 +30,9 @@ same-length-2 c = search needs
 
 returns-2 : tie.Need-returns-2
 returns-2 c =
-    let a = c .before .before .before .before .before .before .before .before .before .before .before .args in
-    scan-given (a .list .now) (a .from) (a .output .now) (a .reply .now) (c .before .before .before .before .before .scan .result) _ _ _ _ (c .before .before .before .before .before .before .before .if1 .left) (c .before .before .before .before .before .scan .ensures) (c .before .before .scan-number .ensures) (c .before .scan-written .ensures) (c .scan-more .ensures)
+    let a = c .before .before .before .before .before .before .before .before .before .args in
+    let done = c .before .before .before .scan in
+    scan-given (a .list .now) (a .from) (a .output .now) (a .reply .now) (done .result) (c .scan-told .result) _ (c .before .before .before .before .before .if1 .left) (done .ensures) (c .scan-told .ensures)
 
 pub ff-scan-spec : {M : Type 1} → statement M
 ff-scan-spec =
@@ -45,9 +40,7 @@ ff-scan-spec =
     (tie.spec
     returns
     scan-requires
-    scan-number-requires
-    scan-written-requires
-    scan-more-requires
+    scan-told-requires
     slice-write-reply
     slice-write-reply-2
     same-length

@@ -3,7 +3,7 @@ use Rattle.lists.proofs.Tests.{or-left, or-right}
 use Rattle.host.specs.Calls.{notForecast, short}
 use Rattle.host.proofs.ChangeGiven.{delete-misfit, delete-given}
 use Rattle.host.proofs.Sized.{not-forecast, is-short}
-use mathlib.Core.Path.{refl}
+use mathlib.Core.Path.{refl, sym}
 use mathlib.Core.Logic.{inl, inr}
 use borrow.Author.Needs.{needs}
 use Rattle.host.proofs.changing.ff_delete.Statement.{statement}
@@ -25,14 +25,8 @@ read-forecast-requires c κs = search needs
 delete-requires : tie.Need-delete-requires
 delete-requires c κs = search needs
 
-delete-number-requires : tie.Need-delete-number-requires
-delete-number-requires c κs = search needs
-
-delete-moves-requires : tie.Need-delete-moves-requires
-delete-moves-requires c κs = search needs
-
-delete-sparse-requires : tie.Need-delete-sparse-requires
-delete-sparse-requires c κs = search needs
+delete-told-requires : tie.Need-delete-told-requires
+delete-told-requires c κs = search needs
 
 slice-write-reply : tie.Need-slice-write-reply
 slice-write-reply c = search needs
@@ -51,12 +45,12 @@ same-length-3 c = search needs
 
 returns-3 : tie.Need-returns-3
 returns-3 c =
-    let a = c .before .before .before .before .before .before .before .before .before .before .before .before .before .before .before .args in
-    let read = c .before .before .before .before .before .before .before .before .read-forecast in
-    let done = c .before .before .before .before .before .before .delete in
-    delete-given (a .list .now) (a .forecast .now) (a .key) (a .reply .now) (read .result) (done .result) _ _ _ _ _ (c .before .before .before .before .before .before .before .before .before .before .before .if1 .left) (c .before .before .before .before .before .before .before .before .before .before .if2 .left) (read .ensures) (done .ensures)
+    let a = c .before .before .before .before .before .before .before .before .before .before .before .before .before .before .args in
+    let read = c .before .before .before .before .before .before .before .read-forecast in
+    let done = c .before .before .before .before .before .delete in
+    let told = c .before .before .delete-told in
+    delete-given (a .list .now) (a .forecast .now) (a .key) (a .reply .now) (read .result) (done .result) (told .result) _ _ _ (c .before .before .before .before .before .before .before .before .before .before .if1 .left) (c .before .before .before .before .before .before .before .before .before .if2 .left) (read .ensures) (done .ensures) (told .ensures) refl
     (inr (c .if3 .taken, refl))
-    (c .before .before .before .delete-number .ensures) (c .before .before .delete-moves .ensures) (c .before .delete-sparse .ensures)
 
 write-forecast-requires : tie.Need-write-forecast-requires
 write-forecast-requires c κs = search needs
@@ -72,12 +66,12 @@ same-length-6 c = search needs
 
 returns-4 : tie.Need-returns-4
 returns-4 c =
-    let a = c .before .before .before .before .before .before .before .before .before .before .before .before .before .before .before .before .before .before .before .before .args in
-    let read = c .before .before .before .before .before .before .before .before .before .before .before .before .before .read-forecast in
-    let done = c .before .before .before .before .before .before .before .before .before .before .before .delete in
-    delete-given (a .list .now) (a .forecast .now) (a .key) (a .reply .now) (read .result) (done .result) _ _ _ _ _ (c .before .before .before .before .before .before .before .before .before .before .before .before .before .before .before .before .if1 .left) (c .before .before .before .before .before .before .before .before .before .before .before .before .before .before .before .if2 .left) (read .ensures) (done .ensures)
+    let a = c .before .before .before .before .before .before .before .before .before .before .before .before .before .before .before .before .before .before .before .args in
+    let read = c .before .before .before .before .before .before .before .before .before .before .before .before .read-forecast in
+    let done = c .before .before .before .before .before .before .before .before .before .before .delete in
+    let told = c .before .before .before .before .before .before .before .delete-told in
+    delete-given (a .list .now) (a .forecast .now) (a .key) (a .reply .now) (read .result) (done .result) (told .result) _ _ _ (c .before .before .before .before .before .before .before .before .before .before .before .before .before .before .before .if1 .left) (c .before .before .before .before .before .before .before .before .before .before .before .before .before .before .if2 .left) (read .ensures) (done .ensures) (told .ensures) (sym (c .before .before .before .before .before .if3 .left))
     (inl (c .before .before .before .before .before .if3 .left, c .before .before .write-forecast .ensures))
-    (c .before .before .before .before .before .before .before .before .delete-number .ensures) (c .before .before .before .before .before .before .before .delete-moves .ensures) (c .before .before .before .before .before .before .delete-sparse .ensures)
 
 pub ff-delete-spec : {M : Type 1} → statement M
 ff-delete-spec =
@@ -87,9 +81,7 @@ ff-delete-spec =
     returns-2
     read-forecast-requires
     delete-requires
-    delete-number-requires
-    delete-moves-requires
-    delete-sparse-requires
+    delete-told-requires
     slice-write-reply
     slice-write-reply-2
     same-length

@@ -3,7 +3,7 @@ use Rattle.lists.proofs.Tests.{or-left, or-right}
 use Rattle.host.specs.Calls.{notForecast, short}
 use Rattle.host.proofs.ChangeGiven.{insert-misfit, insert-given}
 use Rattle.host.proofs.Sized.{not-forecast, is-short}
-use mathlib.Core.Path.{refl}
+use mathlib.Core.Path.{refl, sym}
 use mathlib.Core.Logic.{inl, inr}
 use borrow.Author.Needs.{needs}
 use Rattle.host.proofs.changing.ff_insert.Statement.{statement}
@@ -25,11 +25,8 @@ read-forecast-requires c κs = search needs
 insert-requires : tie.Need-insert-requires
 insert-requires c κs = search needs
 
-insert-number-requires : tie.Need-insert-number-requires
-insert-number-requires c κs = search needs
-
-insert-moves-requires : tie.Need-insert-moves-requires
-insert-moves-requires c κs = search needs
+insert-told-requires : tie.Need-insert-told-requires
+insert-told-requires c κs = search needs
 
 slice-write-reply : tie.Need-slice-write-reply
 slice-write-reply c = search needs
@@ -48,9 +45,9 @@ returns-3 c =
     let a = c .before .before .before .before .before .before .before .before .before .before .before .before .before .before .args in
     let read = c .before .before .before .before .before .before .before .read-forecast in
     let done = c .before .before .before .before .before .insert in
-    insert-given (a .list .now) (a .forecast .now) (a .key) (a .reply .now) (read .result) (done .result) _ _ _ _ (c .before .before .before .before .before .before .before .before .before .before .if1 .left) (c .before .before .before .before .before .before .before .before .before .if2 .left) (read .ensures) (done .ensures)
+    let told = c .before .before .insert-told in
+    insert-given (a .list .now) (a .forecast .now) (a .key) (a .reply .now) (read .result) (done .result) (told .result) _ _ _ (c .before .before .before .before .before .before .before .before .before .before .if1 .left) (c .before .before .before .before .before .before .before .before .before .if2 .left) (read .ensures) (done .ensures) (told .ensures) refl
     (inr (c .if3 .taken, refl))
-    (c .before .before .insert-number .ensures) (c .before .insert-moves .ensures)
 
 write-forecast-requires : tie.Need-write-forecast-requires
 write-forecast-requires c κs = search needs
@@ -69,9 +66,9 @@ returns-4 c =
     let a = c .before .before .before .before .before .before .before .before .before .before .before .before .before .before .before .before .before .before .before .args in
     let read = c .before .before .before .before .before .before .before .before .before .before .before .before .read-forecast in
     let done = c .before .before .before .before .before .before .before .before .before .before .insert in
-    insert-given (a .list .now) (a .forecast .now) (a .key) (a .reply .now) (read .result) (done .result) _ _ _ _ (c .before .before .before .before .before .before .before .before .before .before .before .before .before .before .before .if1 .left) (c .before .before .before .before .before .before .before .before .before .before .before .before .before .before .if2 .left) (read .ensures) (done .ensures)
+    let told = c .before .before .before .before .before .before .before .insert-told in
+    insert-given (a .list .now) (a .forecast .now) (a .key) (a .reply .now) (read .result) (done .result) (told .result) _ _ _ (c .before .before .before .before .before .before .before .before .before .before .before .before .before .before .before .if1 .left) (c .before .before .before .before .before .before .before .before .before .before .before .before .before .before .if2 .left) (read .ensures) (done .ensures) (told .ensures) (sym (c .before .before .before .before .before .if3 .left))
     (inl (c .before .before .before .before .before .if3 .left, c .before .before .write-forecast .ensures))
-    (c .before .before .before .before .before .before .before .insert-number .ensures) (c .before .before .before .before .before .before .insert-moves .ensures)
 
 pub ff-insert-spec : {M : Type 1} → statement M
 ff-insert-spec =
@@ -81,8 +78,7 @@ ff-insert-spec =
     returns-2
     read-forecast-requires
     insert-requires
-    insert-number-requires
-    insert-moves-requires
+    insert-told-requires
     slice-write-reply
     same-length
     same-length-2

@@ -32,8 +32,8 @@ read-forecast-requires c κs = search needs
 read-totals-requires : tie.Need-read-totals-requires
 read-totals-requires c κs = search needs
 
-run-with-requires : tie.Need-run-with-requires
-run-with-requires c κs = search needs
+run-told-requires : tie.Need-run-told-requires
+run-told-requires c κs = search needs
 
 write-totals-requires : tie.Need-write-totals-requires
 write-totals-requires c κs = search needs
@@ -55,16 +55,16 @@ same-length-4 c = search needs
 
 returns-4 : tie.Need-returns-4
 returns-4 c =
-    let a = c .before .before .before .before .before .before .before .before .before .before .before .before .before .before .before .before .before .before .before .before .before .before .before .before .before .before .before .args in
-    let forecast = c .before .before .before .before .before .before .before .before .before .before .before .before .before .before .before .before .before .read-forecast in
-    let totals = c .before .before .before .before .before .before .before .before .before .before .before .before .before .before .before .read-totals in
-    let ran = c .before .before .before .before .before .before .before .before .before .before .before .before .before .run-with in
-    run-given (a .list .now) (a .forecast .now) (a .requests .now) (a .allowance) (a .totals .now) (a .reply .now) (forecast .result) (totals .result) (ran .result) _ _ _ _ (c .before .before .before .before .before .before .before .before .before .before .before .before .before .before .before .before .before .before .before .before .before .if1 .left) (c .before .before .before .before .before .before .before .before .before .before .before .before .before .before .before .before .before .before .before .before .if2 .left) (c .before .before .before .before .before .before .before .before .before .before .before .before .before .before .before .before .before .before .before .if3 .left) (forecast .ensures) (totals .ensures) (ran .ensures)
-    (inr ((omega (arith, c .before .if4 .taken), omega (arith, c .if5 .taken)), refl))
-    (c .before .before .before .before .before .before .before .before .write-totals .ensures) (c .before .before .before .before .write-reply .ensures)
+    let a = c .before .before .before .before .before .before .before .before .before .before .before .before .before .before .before .before .before .before .before .before .before .before .before .before .before .before .before .before .before .args in
+    let forecast = c .before .before .before .before .before .before .before .before .before .before .before .before .before .before .before .before .before .before .before .read-forecast in
+    let totals = c .before .before .before .before .before .before .before .before .before .before .before .before .before .before .before .before .before .read-totals in
+    let ran = c .before .before .before .before .before .before .before .before .before .before .before .before .before .before .before .run-told in
+    run-given (a .list .now) (a .forecast .now) (a .requests .now) (a .allowance) (a .totals .now) (a .reply .now) (forecast .result) (totals .result) (ran .result) _ _ _ _ (c .before .before .before .before .before .before .before .before .before .before .before .before .before .before .before .before .before .before .before .before .before .before .before .if1 .left) (c .before .before .before .before .before .before .before .before .before .before .before .before .before .before .before .before .before .before .before .before .before .before .if2 .left) (c .before .before .before .before .before .before .before .before .before .before .before .before .before .before .before .before .before .before .before .before .before .if3 .left) (forecast .ensures) (totals .ensures) (ran .ensures)
+    (inr ((omega (arith, c .before .before .if4 .taken), omega (arith, c .if5 .taken)), refl))
+    (c .before .before .before .before .before .before .before .before .before .before .write-totals .ensures) (c .before .before .before .before .before .before .write-reply .ensures)
 
 write-forecast-requires : tie.Need-write-forecast-requires
-write-forecast-requires c κs = search needs
+write-forecast-requires c κs = search (needs, c .before .before .before .before .before .before .before .before .before .before .before .before .before .before .before .before .before .before .before .before .before .before .before .if1 .left)
 
 same-length-5 : tie.Need-same-length-5
 same-length-5 c = search needs
@@ -80,13 +80,13 @@ same-length-8 c = search needs
 
 returns-5 : tie.Need-returns-5
 returns-5 c =
-    let a = c .before .before .before .before .before .before .before .before .before .before .before .before .before .before .before .before .before .before .before .before .before .before .before .before .before .before .before .before .before .before .before .args in
-    let forecast = c .before .before .before .before .before .before .before .before .before .before .before .before .before .before .before .before .before .before .before .before .before .read-forecast in
-    let totals = c .before .before .before .before .before .before .before .before .before .before .before .before .before .before .before .before .before .before .before .read-totals in
-    let ran = c .before .before .before .before .before .before .before .before .before .before .before .before .before .before .before .before .before .run-with in
-    run-given (a .list .now) (a .forecast .now) (a .requests .now) (a .allowance) (a .totals .now) (a .reply .now) (forecast .result) (totals .result) (ran .result) _ _ _ _ (c .before .before .before .before .before .before .before .before .before .before .before .before .before .before .before .before .before .before .before .before .before .before .before .before .before .if1 .left) (c .before .before .before .before .before .before .before .before .before .before .before .before .before .before .before .before .before .before .before .before .before .before .before .before .if2 .left) (c .before .before .before .before .before .before .before .before .before .before .before .before .before .before .before .before .before .before .before .before .before .before .before .if3 .left) (forecast .ensures) (totals .ensures) (ran .ensures)
-    (inl (⊎-elim (λ w. inr (omega (arith, w .1 .left))) (λ w. inl (omega (arith, w .left))) (c .before .before .before .before .before .if4 .came), c .before .before .write-forecast .ensures))
-    (c .before .before .before .before .before .before .before .before .before .before .before .before .write-totals .ensures) (c .before .before .before .before .before .before .before .before .write-reply .ensures)
+    let a = c .before .before .before .before .before .before .before .before .before .before .before .before .before .before .before .before .before .before .before .before .before .before .before .before .before .before .before .before .before .before .before .before .args in
+    let forecast = c .before .before .before .before .before .before .before .before .before .before .before .before .before .before .before .before .before .before .before .before .before .before .read-forecast in
+    let totals = c .before .before .before .before .before .before .before .before .before .before .before .before .before .before .before .before .before .before .before .before .read-totals in
+    let ran = c .before .before .before .before .before .before .before .before .before .before .before .before .before .before .before .before .before .before .run-told in
+    run-given (a .list .now) (a .forecast .now) (a .requests .now) (a .allowance) (a .totals .now) (a .reply .now) (forecast .result) (totals .result) (ran .result) _ _ _ _ (c .before .before .before .before .before .before .before .before .before .before .before .before .before .before .before .before .before .before .before .before .before .before .before .before .before .before .if1 .left) (c .before .before .before .before .before .before .before .before .before .before .before .before .before .before .before .before .before .before .before .before .before .before .before .before .before .if2 .left) (c .before .before .before .before .before .before .before .before .before .before .before .before .before .before .before .before .before .before .before .before .before .before .before .before .if3 .left) (forecast .ensures) (totals .ensures) (ran .ensures)
+    (inl (⊎-elim (λ w. inr (omega (arith, w .2 .left))) (λ w. inl (omega (arith, w .left))) (c .before .before .before .before .before .if4 .came), c .before .before .write-forecast .ensures))
+    (c .before .before .before .before .before .before .before .before .before .before .before .before .before .write-totals .ensures) (c .before .before .before .before .before .before .before .before .before .write-reply .ensures)
 
 pub ff-run-spec : {M : Type 1} → statement M
 ff-run-spec =
@@ -97,7 +97,7 @@ ff-run-spec =
     returns-3
     read-forecast-requires
     read-totals-requires
-    run-with-requires
+    run-told-requires
     write-totals-requires
     write-reply-requires
     same-length

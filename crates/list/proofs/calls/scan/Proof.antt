@@ -1,5 +1,5 @@
 -- `scan` writes the keys above a key, from where a search for it ends, or tells why the list is refused.
-use mathlib.Core.Path.{_≡_, refl, sym, _∙_}
+use mathlib.Core.Path.{_≡_, sym, ap, _∙_}
 use mathlib.Core.List.{List}
 use Prim.Native.Nat.{ℕ, _+_, _*_, _≤_, _<_}
 use native.Mathlib.Omega.{arith}
@@ -9,9 +9,9 @@ use Rattle.slots.specs.declared.Place.{Place}
 use Rattle.slots.specs.Segments.{Segments, segmentsOf}
 use Rattle.slots.specs.Shown.{Shows, Located}
 use Rattle.slots.proofs.Tallies.{shown-within}
+use Rattle.rules.specs.Refusals.{verdictNumber}
 use Rattle.rules.specs.Checks.{checkList}
-use Rattle.steps.proofs.Valid.{shows-passed, long-passed}
-use Rattle.steps.proofs.Numbers.{list-small}
+use Rattle.rules.proofs.Requests.Shown.{shows-passed, long-passed}
 use Rattle.list.proofs.KeysAbove.{held-there, above-absent, above-present, at-present, wrote-admits, refused-admits}
 use Rattle.list.proofs.calls.scan.Statement.{statement}
 use Rattle.list.proofs.calls.scan.Tie as tie
@@ -19,25 +19,25 @@ use Rattle.list.proofs.calls.scan.Tie as tie
 look-over-requires : tie.Need-look-over-requires
 look-over-requires c κs = search needs
 
+enum-known-verdict : tie.Need-enum-known-verdict
+enum-known-verdict c = search needs
+
 returns : tie.Need-returns
-returns c = refused-admits _ _ _ _ 1 (sym (c .before .look-over .ensures .number) ∙ c .if1 .taken) (omega arith) refl
+returns c = refused-admits _ _ _ _ (sym (c .before .before .before .look-over .ensures .number) ∙ ap verdictNumber (c .before .verdict .given .1))
 
-returns-2 : tie.Need-returns-2
-returns-2 c = refused-admits _ _ _ _ 2 (sym (c .before .before .look-over .ensures .number) ∙ c .if2 .taken) (omega arith) refl
+enum-told : tie.Need-enum-told
+enum-told c = search needs
 
-returns-3 : tie.Need-returns-3
-returns-3 c = refused-admits _ _ _ _ 3 (sym (c .before .before .before .look-over .ensures .number) ∙ c .if3 .taken) (omega arith) refl
-
--- past the tests of its number, the list passes and shows its segments
-module _ (c : tie.Else3) where
+-- where the verdict accepts, the list passes and shows its segments
+module _ (c : tie.After-enum-told) where
   abbrev list : List ℕ
-  list = c .before .before .before .before .before .before .args .list .now
+  list = c .before .before .before .before .before .args .list .now
 
   abbrev from : ℕ
-  from = c .before .before .before .before .before .before .args .from
+  from = c .before .before .before .before .before .args .from
 
   passes : checkList list ≡ 0
-  passes = omega (arith, list-small list)
+  passes = sym (c .before .before .look-over .ensures .number) ∙ ap verdictNumber (c .enum-told .given .1)
 
   shows : Shows (segmentsOf list) list
   shows = shows-passed list passes
@@ -66,20 +66,20 @@ write-keys-requires c κs =
     let a = c .before .before .before in
     let z = a .before in
     let r = a .locate .ensures .0 in
-    let h : found a .at < found a .held = at-present (from z) (segmentsOf (list z)) (shows z .listed) (some z) (found a) (located a) (c .before .before .if4 .taken) in
+    let h : found a .at < found a .held = at-present (from z) (segmentsOf (list z)) (shows z .listed) (some z) (found a) (located a) (c .before .before .if1 .taken) in
     (r .0, omega arith, r .2)
 
 same-length : tie.Need-same-length
 same-length c = search needs
 
-returns-4 : tie.Need-returns-4
-returns-4 c =
+returns-2 : tie.Need-returns-2
+returns-2 c =
     let a = c .before .before .before .before .before .before in
     let z = a .before in
     let ss : Segments = segmentsOf (list z) in
-    let out : List ℕ = z .before .before .before .before .before .before .args .output .now in
+    let out : List ℕ = z .before .before .before .before .before .args .output .now in
     let w = c .before .before .write-keys .ensures ss (shows z) (held-there (from z) ss (shows z .listed) (some z) (found a) (located a)) in
-    wrote-admits (list z) (from z) out _ _ _ (passes z) (above-present (from z) ss (shows z .listed) (some z) (found a) (located a) (c .before .before .before .before .before .if4 .taken)) w
+    wrote-admits (list z) (from z) out _ _ _ (passes z) (above-present (from z) ss (shows z .listed) (some z) (found a) (located a) (c .before .before .before .before .before .if1 .taken)) w
 
 write-keys-requires-2 : tie.Need-write-keys-requires-2
 write-keys-requires-2 c κs = search needs
@@ -87,28 +87,28 @@ write-keys-requires-2 c κs = search needs
 same-length-2 : tie.Need-same-length-2
 same-length-2 c = search needs
 
-returns-5 : tie.Need-returns-5
-returns-5 c =
+returns-3 : tie.Need-returns-3
+returns-3 c =
     let a = c .before .before .before .before .before in
     let z = a .before in
     let ss : Segments = segmentsOf (list z) in
-    let out : List ℕ = z .before .before .before .before .before .before .args .output .now in
+    let out : List ℕ = z .before .before .before .before .before .args .output .now in
     let w = c .before .before .write-keys2 .ensures ss (shows z) (held-there (from z) ss (shows z .listed) (some z) (found a) (located a)) in
-    wrote-admits (list z) (from z) out _ _ _ (passes z) (above-absent (from z) ss (shows z .listed) (some z) (found a) (located a) (c .before .before .before .before .if4 .left)) w
+    wrote-admits (list z) (from z) out _ _ _ (passes z) (above-absent (from z) ss (shows z .listed) (some z) (found a) (located a) (c .before .before .before .before .if1 .left)) w
 
 pub scan-spec : {M : Type 1} → statement M
 scan-spec =
     tie.close
     (tie.spec
     look-over-requires
+    enum-known-verdict
     returns
-    returns-2
-    returns-3
+    enum-told
     locate-requires
     add-write-keys
     write-keys-requires
     same-length
-    returns-4
+    returns-2
     write-keys-requires-2
     same-length-2
-    returns-5)
+    returns-3)

@@ -3,7 +3,6 @@ use mathlib.Core.Path.{refl}
 use Prim.Native.Nat.{_+_, _*_, _≤_, _<_}
 use native.Mathlib.Omega.{arith}
 use lib.ListN.{length, length-take, length-drop}
-use Rattle.steps.proofs.FromValid.{height-valid}
 use Rattle.steps.proofs.ShiftedOut.{out-bounds, shift-out-done}
 use borrow.Author.Needs.{needs}
 use Rattle.steps.proofs.shifting.shift_out.Statement.{statement}
@@ -13,7 +12,7 @@ use Rattle.steps.proofs.shifting.shift_out.Tie as tie
 bounds : (s : tie.Start)
     → (64 * s .args .place .segment + 64 ≤ length (s .args .list .now)) × (length (s .args .list .now) ≤ 4096) × (s .args .place .at < s .args .place .held) × (s .args .place .held ≤ 64)
     × (1 ≤ s .args .keys)
-bounds s = out-bounds (s .args .list .now) (s .args .forecast) (s .args .dropped) (s .args .h) (s .args .keys) (s .args .key) (s .args .place) (s .pre .0)
+bounds s = out-bounds (s .args .list .now) (s .args .forecast) (s .args .dropped) (s .args .shape .height) (s .args .keys) (s .args .key) (s .args .place) (s .pre .0)
 
 mul-a : tie.Need-mul-a
 mul-a c = omega (arith, bounds (c .before))
@@ -50,7 +49,7 @@ sub-is-sparse c = bounds (c .before .before .before .before .before) .4
 is-sparse-requires : tie.Need-is-sparse-requires
 is-sparse-requires c κs =
     let s = c .before .before .before .before .before in
-    height-valid (s .args .list .now) (s .args .forecast) (s .args .h) (s .args .keys) (s .pre .0 .valid)
+    s .pre .3
 
 sub-t16 : tie.Need-sub-t16
 sub-t16 c = bounds (c .before .before .before .before .before .before) .4
@@ -62,7 +61,7 @@ returns : tie.Need-returns
 returns c =
     let s = c .before .before .before .before .before .before in
     rw (c .is-sparse .ensures)
-    (shift-out-done (s .args .list .now) (s .args .forecast) (s .args .dropped) (s .args .h) (s .args .keys) (s .args .key) (s .args .place) (s .pre .0) (s .pre .1) (s .args .left) _ _ _ (s .pre .2) refl refl
+    (shift-out-done (s .args .list .now) (s .args .forecast) (s .args .dropped) (s .args .shape .height) (s .args .keys) (s .args .key) (s .args .place) (s .pre .0) (s .pre .1) (s .args .left) _ _ _ (s .pre .2) refl refl
     (c .before .before .before .close-gap .ensures))
 
 pub shift-out-spec : {M : Type 1} → statement M

@@ -16,29 +16,29 @@ use Rattle.steps.proofs.stepping.step_delete.Tie as tie
 
 -- what the check has shown
 shows : (s : tie.Start) → Shows (segmentsOf (s .args .list .now)) (s .args .list .now)
-shows s = shows-valid (s .args .list .now) (s .args .forecast) (s .args .h) (s .args .keys) (s .pre)
+shows s = shows-valid (s .args .list .now) (s .args .forecast) (s .args .shape .height) (s .args .keys) (s .pre .0)
 
 roomy : (s : tie.Start) → Roomy (s .args .forecast)
 roomy s = record { markers = search needs; segments = search needs; counts = search needs }
 
 tidy : (s : tie.Start) → Tidy (s .args .forecast)
-tidy s = tidy-valid (s .args .list .now) (s .args .forecast) (s .args .h) (s .args .keys) (s .pre) (roomy s)
+tidy s = tidy-valid (s .args .list .now) (s .args .forecast) (s .args .shape .height) (s .args .keys) (s .pre .0) (roomy s)
 
-nothing-requires : tie.Need-nothing-requires
-nothing-requires c κs = search needs
+refuse-requires : tie.Need-refuse-requires
+refuse-requires c κs = search needs
 
 returns : tie.Need-returns
 returns c =
     let s = c .before .before .before in
-    rw (c .nothing .ensures) (delete-zero (s .args .left) (s .args .key) (s .args .list .now) (s .args .forecast) (s .args .h) (s .args .keys) (s .pre) (c .before .if1 .taken))
+    rw (c .refuse .ensures) (delete-zero (s .args .left) (s .args .key) (s .args .list .now) (s .args .forecast) (s .args .shape .height) (s .args .keys) (s .pre .0) (c .before .if1 .taken))
 
 locate-requires : tie.Need-locate-requires
 locate-requires c κs =
     let s = c .before .before .before in
-    omega (arith, some-valid (s .args .list .now) (s .args .forecast) (s .args .h) (s .args .keys) (s .pre))
+    omega (arith, some-valid (s .args .list .now) (s .args .forecast) (s .args .shape .height) (s .args .keys) (s .pre .0))
 
-nothing-requires-2 : tie.Need-nothing-requires-2
-nothing-requires-2 c κs = search needs
+refuse-requires-2 : tie.Need-refuse-requires-2
+refuse-requires-2 c κs = search needs
 
 same-length : tie.Need-same-length
 same-length c = search needs
@@ -47,16 +47,16 @@ returns-2 : tie.Need-returns-2
 returns-2 c =
     let l = c .before .before .before in
     let s = l .before .before .before .before in
-    rw (c .nothing2 .ensures)
-    (delete-absent (s .args .left) (s .args .key) (s .args .list .now) (s .args .forecast) (s .args .h) (s .args .keys) (s .pre) (l .before .before .if1 .left) (l .locate .result)
+    rw (c .refuse2 .ensures)
+    (delete-absent (s .args .left) (s .args .key) (s .args .list .now) (s .args .forecast) (s .args .shape .height) (s .args .keys) (s .pre .0) (l .before .before .if1 .left) (l .locate .result)
     (l .locate .ensures .1 _ (shows s)) (not-true _ (c .before .if2 .taken)))
 
 -- the key's place is below the number of keys there
-under : (c : tie.Then3) → c .before .before .before .locate .result .at < c .before .before .before .locate .result .held
+under : (c : tie.Then3) → c .before .before .before .before .locate .result .at < c .before .before .before .before .locate .result .held
 under c =
-    let l = c .before .before .before in
+    let l = c .before .before .before .before in
     let s = l .before .before .before .before in
-    delete-under (s .args .left) (s .args .key) (s .args .list .now) (s .args .forecast) (s .args .h) (s .args .keys) (s .pre) (l .before .before .if1 .left) (l .locate .result) (l .locate .ensures .1 _ (shows s)) (not-false _ (c .before .if2 .left))
+    delete-under (s .args .left) (s .args .key) (s .args .list .now) (s .args .forecast) (s .args .shape .height) (s .args .keys) (s .pre .0) (l .before .before .if1 .left) (l .locate .result) (l .locate .ensures .1 _ (shows s)) (not-false _ (c .before .before .if2 .left))
 
 sub-if4 : tie.Need-sub-if4
 sub-if4 c = omega (arith, under c)
@@ -64,42 +64,43 @@ sub-if4 c = omega (arith, under c)
 sub-if4-2 : tie.Need-sub-if4-2
 sub-if4-2 c = omega (arith, under c)
 
-nothing-requires-3 : tie.Need-nothing-requires-3
-nothing-requires-3 c κs = search needs
+refuse-requires-3 : tie.Need-refuse-requires-3
+refuse-requires-3 c κs = search needs
 
 same-length-2 : tie.Need-same-length-2
 same-length-2 c = search needs
 
 returns-3 : tie.Need-returns-3
 returns-3 c =
-    let l = c .before .before .before .before .before in
+    let l = c .before .before .before .before .before .before in
     let s = l .before .before .before .before in
     let at = l .locate .ensures .1 _ (shows s) in
-    let t = not-false _ (c .before .before .before .if2 .left) in
-    rw (c .nothing3 .ensures)
-    (delete-over (s .args .left) (s .args .key) (s .args .list .now) (s .args .forecast) (s .args .h) (s .args .keys) (s .pre) (l .before .before .if1 .left) (l .locate .result) at t
-    (delete-keeps (s .args .left) (s .args .key) (s .args .list .now) (s .args .forecast) (s .args .h) (s .args .keys) (s .pre) (l .before .before .if1 .left) (l .locate .result) at t (c .before .before .if3 .taken)) (c .before .if4 .taken))
+    let t = not-false _ (c .before .before .before .before .if2 .left) in
+    rw (c .refuse3 .ensures)
+    (delete-over (s .args .left) (s .args .key) (s .args .list .now) (s .args .forecast) (s .args .shape .height) (s .args .keys) (s .pre .0) (l .before .before .if1 .left) (l .locate .result) at t
+    (delete-keeps (s .args .left) (s .args .key) (s .args .list .now) (s .args .forecast) (s .args .shape .height) (s .args .keys) (s .pre .0) (l .before .before .if1 .left) (l .locate .result) at t (omega (arith, c .before .before .if3 .taken, s .pre .1 .low))) (c .before .if4 .taken))
 
 drop-marker-requires : tie.Need-drop-marker-requires
-drop-marker-requires c κs = tidy (c .before .before .before .before .before .before .before)
+drop-marker-requires c κs = tidy (c .before .before .before .before .before .before .before .before)
 
 -- the cell is dropped
 dropping : (c : tie.After-drop-marker)
-    → Deleting (c .before .before .before .before .before .before .before .before .args .list .now) (c .before .before .before .before .before .before .before .before .args .forecast) (c .drop-marker .result) (c .before .before .before .before .before .before .before .before .args .h) (c .before .before .before .before .before .before .before .before .args .keys) (c .before .before .before .before .before .before .before .before .args .key)
-    (c .before .before .before .before .locate .result)
+    → Deleting (c .before .before .before .before .before .before .before .before .before .args .list .now) (c .before .before .before .before .before .before .before .before .before .args .forecast) (c .drop-marker .result) (c .before .before .before .before .before .before .before .before .before .args .shape .height) (c .before .before .before .before .before .before .before .before .before .args .keys) (c .before .before .before .before .before .before .before .before .before .args .key)
+    (c .before .before .before .before .before .locate .result)
 dropping c =
-    let l = c .before .before .before .before in
+    let l = c .before .before .before .before .before in
     let s = l .before .before .before .before in
-    deleting (s .args .left) (s .args .key) (s .args .list .now) (s .args .forecast) (s .args .h) (s .args .keys) (s .pre) (l .before .before .if1 .left) (l .locate .result) (l .locate .ensures .1 _ (shows s)) (not-false _ (c .before .before .if2 .left)) (c .drop-marker .result) (c .drop-marker .ensures)
+    deleting (s .args .left) (s .args .key) (s .args .list .now) (s .args .forecast) (s .args .shape .height) (s .args .keys) (s .pre .0) (l .before .before .if1 .left) (l .locate .result) (l .locate .ensures .1 _ (shows s)) (not-false _ (c .before .before .before .if2 .left)) (c .drop-marker .result) (c .drop-marker .ensures)
 
 shift-out-requires : tie.Need-shift-out-requires
 shift-out-requires c κs =
-    let l = c .before .before .before .before .before .before .before in
+    let l = c .before .before .before .before .before .before .before .before in
     let s = l .before .before .before .before in
     let many = c .before .if5 .taken in (
       dropping (c .before .before .before),
-      delete-keeps (s .args .left) (s .args .key) (s .args .list .now) (s .args .forecast) (s .args .h) (s .args .keys) (s .pre) (l .before .before .if1 .left) (l .locate .result) (l .locate .ensures .1 _ (shows s)) (not-false _ (c .before .before .before .before .before .if2 .left)) many,
+      delete-keeps (s .args .left) (s .args .key) (s .args .list .now) (s .args .forecast) (s .args .shape .height) (s .args .keys) (s .pre .0) (l .before .before .if1 .left) (l .locate .result) (l .locate .ensures .1 _ (shows s)) (not-false _ (c .before .before .before .before .before .before .if2 .left)) (omega (arith, many, s .pre .1 .low)),
       ⊎-elim (λ w. w .1 .left) (λ w. omega (arith, w .left, many)) (c .before .before .before .before .if3 .came),
+      s .pre .1,
     )
 
 same-length-3 : tie.Need-same-length-3
@@ -109,7 +110,7 @@ returns-4 : tie.Need-returns-4
 returns-4 c = search needs
 
 resow-out-requires : tie.Need-resow-out-requires
-resow-out-requires c κs = let few = c .before .if5 .left in (dropping (c .before .before .before), omega arith)
+resow-out-requires c κs = (dropping (c .before .before .before), omega (arith, c .before .if5 .left, c .before .before .before .before .before .before .before .before .before .before .before .before .pre .1 .low), c .before .before .before .before .before .before .before .before .before .before .before .before .pre .1)
 
 same-length-4 : tie.Need-same-length-4
 same-length-4 c = search needs
@@ -121,15 +122,15 @@ pub step-delete-spec : {M : Type 1} → statement M
 step-delete-spec =
     tie.close
     (tie.spec
-    nothing-requires
+    refuse-requires
     returns
     locate-requires
-    nothing-requires-2
+    refuse-requires-2
     same-length
     returns-2
     sub-if4
     sub-if4-2
-    nothing-requires-3
+    refuse-requires-3
     same-length-2
     returns-3
     drop-marker-requires

@@ -19,7 +19,7 @@ module _ (s : tie.Start) where
   window = s .args .window .now
 
   abbrev S : Shares
-  S = shares (s .args .h)
+  S = shares (s .args .shape .height)
 
   keys-fit : s .args .m ≤ length window
   keys-fit = omega (arith, room S (s .args .level) _ (s .args .m) (s .pre .0 .planned), s .pre .0 .size)
@@ -63,7 +63,7 @@ slice-aggregate-plan-keys : tie.Need-slice-aggregate-plan-keys
 slice-aggregate-plan-keys c = sym (lent-long (c .before .before))
 
 plan-keys-requires : tie.Need-plan-keys-requires
-plan-keys-requires c κs = let s = c .before .before .before .before in (s .pre .0, s .pre .1, s .pre .2, lent-long (c .before .before) ∙ c .before .before .power .ensures .0)
+plan-keys-requires c κs = let s = c .before .before .before .before in (s .pre .0, s .pre .1, s .pre .2, lent-long (c .before .before) ∙ c .before .before .power .ensures .0, s .pre .3)
 
 array-share-prefix-counts : tie.Need-array-share-prefix-counts
 array-share-prefix-counts c = simp length-append (omega (arith, made-long (c .before .before)))

@@ -10,18 +10,22 @@ use Rattle.forecast.specs.Cells.{usedCells, weight}
 use Rattle.rules.specs.Shares.{shares}
 use Rattle.rules.specs.SharingOut.{plan}
 use Rattle.rules.specs.Readings.{Limits}
-use Rattle.sharing.specs.declared.Part.{Part}
-use Rattle.sharing.specs.Marks.{Marked}
-use Rattle.sharing.specs.Parts.{weightsIn, PartOf, wholeOf}
-use Rattle.sharing.specs.Plans.{Rows}
-use Rattle.sharing.proofs.Parts.{whole-part}
+use Rattle.planning.specs.declared.Part.{Part}
+use Rattle.planning.specs.Marks.{Marked}
+use Rattle.planning.specs.Parts.{weightsIn, PartOf, wholeOf}
+use Rattle.shares.specs.Rows.{Rows}
+use Rattle.planning.proofs.Parts.{whole-part}
 use Rattle.steps.proofs.Dealing.{room, few-segments}
 use Rattle.steps.proofs.sweeping.plan_keys.Statement.{statement}
 use Rattle.steps.proofs.sweeping.plan_keys.Tie as tie
 
 -- at the entry: the keys fit the window
 keys-fit : (s : tie.Start) → s .args .m ≤ length (s .args .window .now)
-keys-fit s = omega (arith, room (shares (s .args .h)) (s .args .level) _ (s .args .m) (s .pre .0 .planned), s .pre .0 .size)
+keys-fit s = omega (arith, room (shares (s .args .shape .height)) (s .args .level) _ (s .args .m) (s .pre .0 .planned), s .pre .0 .size)
+
+-- the rows are arrays of seven
+rows-long : (s : tie.Start) → (length (s .args .shape .lows) ≡ 7) × (length (s .args .shape .highs) ≡ 7)
+rows-long s = (search needs, search needs)
 
 -- the marks, and the window with them as one part
 module _ (c : tie.After-mark) where
@@ -46,21 +50,18 @@ module _ (c : tie.After-mark) where
   few : s .args .m ≤ 4096
   few =
       let p = s .pre .0 .planned in
-      omega (arith, room (shares (s .args .h)) (s .args .level) _ (s .args .m) p, few-segments (shares (s .args .h)) (s .args .level) _ (s .args .m) p)
+      omega (arith, room (shares (s .args .shape .height)) (s .args .level) _ (s .args .m) p, few-segments (shares (s .args .shape .height)) (s .args .level) _ (s .args .m) p)
 
   whole : PartOf ws at weights (wholeOf weights (s .args .m) (s .args .front))
   whole = subst (λ (m : ℕ). PartOf ws at weights (wholeOf weights m (s .args .front))) long (whole-part ws at weights (s .args .front) marked (omega (arith, long, few)) (s .pre .2))
 
--- the rows of the height
-module _ (c : tie.After-highs) where
+-- the window with them as one part
+module _ (c : tie.After-whole) where
   abbrev k : tie.After-mark
-  k = c .before .before .before .before .before .before
+  k = c .before .before .before .before
 
-  rows : Rows (shares (s k .args .h)) (c .before .lows .result) (c .highs .result)
-  rows = record { low = c .before .lows .ensures; high = c .highs .ensures }
-
-  part : PartOf (ws k) (at k) (weights k) (c .before .before .whole .result)
-  part = subst (PartOf (ws k) (at k) (weights k)) (sym (c .before .before .whole .ensures)) (whole k)
+  part : PartOf (ws k) (at k) (weights k) (c .whole .result)
+  part = subst (PartOf (ws k) (at k) (weights k)) (sym (c .whole .ensures)) (whole k)
 
 slice-aggregate-mark : tie.Need-slice-aggregate-mark
 slice-aggregate-mark c = search needs
@@ -80,12 +81,6 @@ slice-aggregate-whole c = sym (length-take-le _ _ (search needs))
 whole-requires : tie.Need-whole-requires
 whole-requires c κs = let m = marked (c .before .before .before) in (omega (arith, m .few, m .same), m .small, c .before .before .before .before .before .before .before .before .pre .2)
 
-lows-requires : tie.Need-lows-requires
-lows-requires c κs = search needs
-
-highs-requires : tie.Need-highs-requires
-highs-requires c κs = search needs
-
 array-share-prefix-at : tie.Need-array-share-prefix-at
 array-share-prefix-at c = search needs
 
@@ -99,30 +94,30 @@ slice-aggregate-plan-window-2 : tie.Need-slice-aggregate-plan-window-2
 slice-aggregate-plan-window-2 c = sym (length-take-le _ _ (search needs))
 
 slice-aggregate-plan-window-3 : tie.Need-slice-aggregate-plan-window-3
-slice-aggregate-plan-window-3 c = search needs
+slice-aggregate-plan-window-3 c = sym (rows-long (c .before .before .before .before .before .before .before .before .before .before .before .before .before .before) .0)
 
 slice-aggregate-plan-window-4 : tie.Need-slice-aggregate-plan-window-4
-slice-aggregate-plan-window-4 c = search needs
+slice-aggregate-plan-window-4 c = sym (rows-long (c .before .before .before .before .before .before .before .before .before .before .before .before .before .before .before) .1)
 
 plan-window-requires : tie.Need-plan-window-requires
 plan-window-requires c κs =
-    let d = c .before .before .before .before .before in
+    let d = c .before .before .before .before .before .before .before in
     let s = s (k d) in
     let p = s .pre .0 .planned in
-    let e : d .before .before .whole .result .keys ≡ s .args .m = ap (λ (q : Part). q .keys) (d .before .before .whole .ensures) in
-    ((ws (k d), part d), (shares (s .args .h), rows d, record { lawful = p .lawful; height = p .height; level = p .level; segments = s .pre .3; limits = subst (Limits (shares (s .args .h)) (s .args .level) (s .args .level)) (sym e) (p .limits) }))
+    let e : d .whole .result .keys ≡ s .args .m = ap (λ (q : Part). q .keys) (d .whole .ensures) in
+    ((ws (k d), part d), (shares (s .args .shape .height), s .pre .4, record { lawful = p .lawful; height = p .height; level = p .level; segments = s .pre .3; limits = subst (Limits (shares (s .args .shape .height)) (s .args .level) (s .args .level)) (sym e) (p .limits) }))
 
 same-length : tie.Need-same-length
 same-length c = search needs
 
 returns : tie.Need-returns
 returns c =
-    let d = c .before .before .before .before .before .before .before .before in
+    let d = c .before .before .before .before .before .before .before .before .before .before in
     let s = s (k d) in (
       c .before .before .plan-window .ensures .0,
-      c .before .before .plan-window .ensures .1 (shares (s .args .h)) (ws (k d)) (s .pre .0 .planned .level) (rows d) (part d)
-          ∙ ap (λ (q : Part). plan (shares (s .args .h)) (s .args .level) (q .front) (weightsIn (ws (k d)) q)) (d .before .before .whole .ensures)
-          ∙ ap (plan (shares (s .args .h)) (s .args .level) (s .args .front)) (take-all (s .args .m) (ws (k d)) (omega (arith, long (k d)))),
+      c .before .before .plan-window .ensures .1 (shares (s .args .shape .height)) (ws (k d)) (s .pre .0 .planned .level) (s .pre .4) (part d)
+          ∙ ap (λ (q : Part). plan (shares (s .args .shape .height)) (s .args .level) (q .front) (weightsIn (ws (k d)) q)) (d .whole .ensures)
+          ∙ ap (plan (shares (s .args .shape .height)) (s .args .level) (s .args .front)) (take-all (s .args .m) (ws (k d)) (omega (arith, long (k d)))),
     )
 
 pub plan-keys-spec : {M : Type 1} → statement M
@@ -135,8 +130,6 @@ plan-keys-spec =
     array-share-prefix-weights
     slice-aggregate-whole
     whole-requires
-    lows-requires
-    highs-requires
     array-share-prefix-at
     slice-aggregate-plan-window
     array-share-prefix-weights-2

@@ -24,18 +24,18 @@ module _ (s : tie.Start) where
   abbrev allowed : ℕ
   allowed = length (keys (segmentsOf win)) + 1
 
-  abbrev given : Windowed (s .args .h) (s .args .level) allowed (s .args .counts .now) win
+  abbrev given : Windowed (s .args .shape .height) (s .args .level) allowed (s .args .counts .now) win
   given = s .pre .0 .0
 
   fit : allowed ≤ length win
-  fit = omega (arith, room (shares (s .args .h)) (s .args .level) _ allowed (given .planned), sized-level (s .args .h) (s .args .level) allowed (s .args .counts .now) win given)
+  fit = omega (arith, room (shares (s .args .shape .height)) (s .args .level) _ allowed (given .planned), sized-level (s .args .shape .height) (s .args .level) allowed (s .args .counts .now) win given)
 
 module _ (c : tie.After-pack) where
   abbrev s : tie.Start
   s = c .before .before .before .before
 
   packed-many : c .pack .result ≡ length (keys (segmentsOf (win s)))
-  packed-many = many (s .args .h) (s .args .level) (allowed s) (s .args .counts .now) (win s) (given s) (c .pack .result) (c .pack .last .0) (c .pack .ensures)
+  packed-many = many (s .args .shape .height) (s .args .level) (allowed s) (s .args .counts .now) (win s) (given s) (c .pack .result) (c .pack .last .0) (c .pack .ensures)
 
 module _ (c : tie.After-position) where
   abbrev first : tie.Start
@@ -47,14 +47,14 @@ module _ (c : tie.After-position) where
   -- once the gap is opened, the first slots are the keys with the new one
   with-key : (w : List ℕ) → w ≡ opened r (c .position .result) (first .args .key) (c .before .before .before .before .pack .last .0) → take (r + 1) w ≡ put (first .args .key) (keys (segmentsOf (win first)))
   with-key w e =
-      put-in (first .args .h) (first .args .level) (allowed first) (first .args .counts .now) (win first) (given first) r (c .before .before .before .before .pack .last .0) (c .before .before .before .before .pack .ensures) (first .args .key) (c .position .result)
-      (c .position .ensures .1 (rising (first .args .h) (first .args .level) (allowed first) (first .args .counts .now) (win first) (given first) r (c .before .before .before .before .pack .last .0) (c .before .before .before .before .pack .ensures))) w (c .position .ensures .0) (first .pre .1) e
+      put-in (first .args .shape .height) (first .args .level) (allowed first) (first .args .counts .now) (win first) (given first) r (c .before .before .before .before .pack .last .0) (c .before .before .before .before .pack .ensures) (first .args .key) (c .position .result)
+      (c .position .ensures .1 (rising (first .args .shape .height) (first .args .level) (allowed first) (first .args .counts .now) (win first) (given first) r (c .before .before .before .before .pack .last .0) (c .before .before .before .before .pack .ensures))) w (c .position .ensures .0) (first .pre .1) e
 
 pack-requires : tie.Need-pack-requires
 pack-requires c κs =
     let s = c .before .before .before in (
-      sized (s .args .h) (s .args .level) (allowed s) (s .args .counts .now) (win s) (given s),
-      counts-fit (s .args .h) (s .args .level) (allowed s) (s .args .counts .now) (win s) (given s),
+      sized (s .args .shape .height) (s .args .level) (allowed s) (s .args .counts .now) (win s) (given s),
+      counts-fit (s .args .shape .height) (s .args .level) (allowed s) (s .args .counts .now) (win s) (given s),
     )
 
 position-requires : tie.Need-position-requires
@@ -72,19 +72,20 @@ deal-out-requires c κs =
     let m : c .before .before .before .before .before .before .before .before .before .pack .result + 1 ≡ allowed s = ap (λ (k : ℕ). k + 1) (packed-many (c .before .before .before .before .before .before .before .before .before)) in
     let w = with-key (c .before .before .before .before .before) (c .before .before .before .open-gap .last .0) (c .before .before .before .open-gap .ensures) in (
       record {
-        size = omega (arith, sized-level (s .args .h) (s .args .level) (allowed s) (s .args .counts .now) (win s) (given s));
+        size = omega (arith, sized-level (s .args .shape .height) (s .args .level) (allowed s) (s .args .counts .now) (win s) (given s));
         some = given s .some;
         planned = record {
           lawful = given s .planned .lawful;
           height = given s .planned .height;
           level = given s .planned .level;
           segments = refl;
-          limits = subst (Limits (shares (s .args .h)) (s .args .level) (s .args .level)) (sym m) (given s .planned .limits);
+          limits = subst (Limits (shares (s .args .shape .height)) (s .args .level) (s .args .level)) (sym m) (given s .planned .limits);
         };
         rising = rw w (put-rising (s .args .key) (keys (segmentsOf (win s))) (given s .shows .listed .rising));
       },
       s .pre .0 .1,
       s .pre .0 .2,
+      s .pre .0 .3,
     )
 
 same-length : tie.Need-same-length
@@ -93,7 +94,7 @@ same-length c = search needs
 returns : tie.Need-returns
 returns c =
     let s = c .before .before .before .before .before .before .before .before .before .before .before .before .before .before .before .before in
-    c .before .before .deal-out .ensures ∙ ap (shared (s .args .h) (s .args .level) (s .args .forecast) (s .args .front)) (with-key (c .before .before .before .before .before .before .before .before) (c .before .before .before .before .before .before .open-gap .last .0) (c .before .before .before .before .before .before .open-gap .ensures))
+    c .before .before .deal-out .ensures ∙ ap (shared (s .args .shape .height) (s .args .level) (s .args .forecast) (s .args .front)) (with-key (c .before .before .before .before .before .before .before .before) (c .before .before .before .before .before .before .open-gap .last .0) (c .before .before .before .before .before .before .open-gap .ensures))
 
 pub sweep-in-spec : {M : Type 1} → statement M
 sweep-in-spec = tie.close (tie.spec pack-requires position-requires open-gap-requires add-deal-out deal-out-requires same-length returns)

@@ -1,0 +1,2 @@
+pub mod CellChecks
+pub mod Numbers

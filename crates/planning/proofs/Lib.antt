@@ -1,0 +1,9 @@
+pub mod NextMark
+pub mod Weighing
+pub mod Valley
+pub mod Looks
+pub mod Parts
+pub mod Scanning
+pub mod Ranges
+pub mod Lent
+pub mod Levels

@@ -1,0 +1,4 @@
+pub mod Marks
+pub mod Plans
+pub mod Tries
+pub mod Parts

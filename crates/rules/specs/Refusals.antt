@@ -1,0 +1,22 @@
+-- Document 01, "Refusal numbers": the number of each refusal, and 0 where nothing is refused.
+use Prim.Native.Nat.{ℕ}
+use Rattle.rules.specs.declared.Refusal.{Refusal}
+use Rattle.rules.specs.declared.Refusal.the-variants.{WrongLength, WrongOrder, TooManyKeys, WrongForecast, KeyZero, KeyPresent, KeyAbsent, Full, BadRecord, AllowancePassed}
+use Rattle.rules.specs.declared.Verdict.{Verdict}
+use Rattle.rules.specs.declared.Verdict.the-variants.{Refused, Accepted}
+
+abbrev pub refusalNumber : Refusal → ℕ
+refusalNumber WrongLength = 1
+refusalNumber WrongOrder = 2
+refusalNumber TooManyKeys = 3
+refusalNumber WrongForecast = 4
+refusalNumber KeyZero = 5
+refusalNumber KeyPresent = 6
+refusalNumber KeyAbsent = 7
+refusalNumber Full = 8
+refusalNumber BadRecord = 9
+refusalNumber AllowancePassed = 10
+
+abbrev pub verdictNumber : Verdict → ℕ
+verdictNumber (Refused x) = refusalNumber x
+verdictNumber Accepted = 0

@@ -1,0 +1,85 @@
+-- `shares::shape_of` meets its contract: capacity and floor are the segments times the whole array's shares.
+use mathlib.Core.Path.{_≡_, refl, ap₂, _∙_}
+use Prim.Native.Nat.{ℕ, _*_, _≤_}
+use native.Mathlib.Omega.{arith}
+use borrow.Author.Needs.{needs}
+use Rattle.shares.proofs.Products.{fits-mul}
+use Rattle.shares.proofs.shape_of.Statement.{statement}
+use Rattle.shares.proofs.shape_of.Tie as tie
+
+power-requires : tie.Need-power-requires
+power-requires c κs = search needs
+
+lows-requires : tie.Need-lows-requires
+lows-requires c κs = search needs
+
+highs-requires : tie.Need-highs-requires
+highs-requires c κs = search needs
+
+add-t6 : tie.Need-add-t6
+add-t6 c = search needs
+
+array-read-wide : tie.Need-array-read-wide
+array-read-wide c = search needs
+
+wide-requires : tie.Need-wide-requires
+wide-requires c κs = search needs
+
+mul-t11 : tie.Need-mul-t11
+mul-t11 c = fits-mul 64 64 tt (c .before .before .before .power .ensures .1) (omega (arith, c .wide .ensures, c .before .highs .ensures .1))
+
+array-read-wide-2 : tie.Need-array-read-wide-2
+array-read-wide-2 c = search needs
+
+wide-requires-2 : tie.Need-wide-requires-2
+wide-requires-2 c κs = search needs
+
+mul-t16 : tie.Need-mul-t16
+mul-t16 c = fits-mul 64 13 tt (c .before .before .before .before .power .ensures .1) (omega (arith, c .wide2 .ensures, c .before .before .before .lows .ensures .1))
+
+array-read-wide-3 : tie.Need-array-read-wide-3
+array-read-wide-3 c = search needs
+
+wide-requires-3 : tie.Need-wide-requires-3
+wide-requires-3 c κs = search needs
+
+array-read-wide-4 : tie.Need-array-read-wide-4
+array-read-wide-4 c = search needs
+
+wide-requires-4 : tie.Need-wide-requires-4
+wide-requires-4 c κs = search needs
+
+returns : tie.Need-returns
+returns c =
+    let n = c .before .before .before .before .before .before .power .ensures .0 in
+    let low = c .before .before .before .before .before .lows .ensures .0 in
+    let high = c .before .before .before .before .highs .ensures .0 in
+    record {
+      height = refl;
+      cells = refl;
+      capacity = ap₂ (λ (a b : ℕ). a * b) n (c .before .before .before .wide .ensures ∙ high .is _ (omega arith));
+      floor = ap₂ (λ (a b : ℕ). a * b) n (c .before .before .wide2 .ensures ∙ low .is _ (omega arith));
+      high = c .before .wide3 .ensures ∙ high .is _ (omega arith);
+      low = c .wide4 .ensures ∙ low .is _ (omega arith);
+      rows = record { low = low; high = high };
+    }
+
+pub shape-of-spec : {M : Type 1} → statement M
+shape-of-spec =
+    tie.close
+    (tie.spec
+    power-requires
+    lows-requires
+    highs-requires
+    add-t6
+    array-read-wide
+    wide-requires
+    mul-t11
+    array-read-wide-2
+    wide-requires-2
+    mul-t16
+    array-read-wide-3
+    wide-requires-3
+    array-read-wide-4
+    wide-requires-4
+    returns)

@@ -15,10 +15,11 @@ struct totals {
 };
 
 struct reply {
+    struct forecast forecast;
     size_t worked, refused;
     uint64_t moves;
-    size_t stop, place;
-    struct forecast forecast;
+    size_t sweeps, place;
+    uint64_t stop;
 };
 
 struct reply ff_run_over(uint64_t *list, size_t list_length, struct forecast forecast, const uint8_t *requests, size_t requests_length,

@@ -20,7 +20,7 @@ use Rattle.rules.specs.Shares.{shares}
 use Rattle.rules.specs.Readings.{Limits}
 use Rattle.rules.proofs.Sharing.Table.{lawful}
 use Rattle.rules.proofs.Sweeping.SweptWindow.{keys-window}
-use Rattle.steps.specs.Sweeps.{Windowed}
+use Rattle.sweeps.specs.Sweeps.{Windowed}
 
 -- the keys of segments, in two parts
 two-parts : (n : ℕ) (ss : Segments) → keys ss ≡ keys (take n ss) ++ keys (drop n ss)

@@ -3,8 +3,6 @@ pub mod StepCases
 pub mod Places
 pub mod ShiftedIn
 pub mod ShiftedOut
-pub mod Dealing
-pub mod InWindow
 pub mod LentWindow
 pub mod Resown
 pub mod SweptIn

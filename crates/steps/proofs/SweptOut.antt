@@ -37,7 +37,7 @@ use Rattle.sharing.specs.declared.Climb.{Climb}
 use Rattle.sharing.specs.Climbs.{Climbed}
 use Rattle.rules.specs.declared.Refusal.the-variants.{AllowancePassed}
 use Rattle.rules.specs.declared.Verdict.the-variants.{Accepted}
-use Rattle.steps.specs.Sweeps.{Weighs, Windowed, shared}
+use Rattle.sweeps.specs.Sweeps.{Weighs, Windowed, shared}
 use Rattle.steps.specs.Stepped.{Deleting, Unswept, idle, Steps}
 use Rattle.steps.proofs.FromValid.{height-valid, shows-valid, some-valid, good-valid, keys-valid}
 use Rattle.steps.proofs.StepCases.{step-over}

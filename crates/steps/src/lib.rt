@@ -2,7 +2,6 @@
 pub mod resowing;
 pub mod shifting;
 pub mod stepping;
-pub mod sweeping;
 
 use forecast::Forecast;
 use rules::Verdict;

@@ -6,7 +6,6 @@ ghost use Rattle.shares.specs.Rows.{Fetched};
 ghost use Rattle.steps.specs.Stepped.{Inserting, Deleting, Steps};
 use crate::Step;
 use crate::shifting;
-use crate::sweeping;
 use forecast::Forecast;
 use rules::Refusal;
 use rules::Verdict;
@@ -38,10 +37,10 @@ pub fn resow_in(
     let level = found.level;
     let n = shares::power(level);
     let first = segment / n * n;
-    let front = sweeping::front_weight(noted, first);
+    let front = sweeps::front_weight(noted, first);
     let a = 64 * first;
     let e = a + 64 * n;
-    sweeping::sweep_in(
+    sweeps::sweep_in(
         &mut list[a..e],
         &counts[first..first + n],
         key,
@@ -92,10 +91,10 @@ pub fn resow_out(
     }
     let n = shares::power(level);
     let first = segment / n * n;
-    let front = sweeping::front_weight(dropped, first);
+    let front = sweeps::front_weight(dropped, first);
     let a = 64 * first;
     let e = a + 64 * n;
-    sweeping::sweep_out(
+    sweeps::sweep_out(
         &mut list[a..e],
         &counts[first..first + n],
         key,

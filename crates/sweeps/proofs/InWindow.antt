@@ -20,7 +20,7 @@ use Rattle.slots.proofs.Render.{keys-segments, length-render}
 use Rattle.slots.proofs.Carried.{packed-keys}
 use Rattle.moves.proofs.Gaps.{length-insertAt}
 use Rattle.slots.proofs.ByPlace.{put-at, cut-at, place-old}
-use Rattle.steps.specs.Sweeps.{Windowed}
+use Rattle.sweeps.specs.Sweeps.{Windowed}
 
 module _ (h l n : ℕ) (counts w : List ℕ) (d : Windowed h l n counts w) where
   abbrev ss : Segments

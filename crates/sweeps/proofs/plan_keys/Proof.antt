@@ -15,9 +15,9 @@ use Rattle.planning.specs.Marks.{Marked}
 use Rattle.planning.specs.Parts.{weightsIn, PartOf, wholeOf}
 use Rattle.shares.specs.Rows.{Rows}
 use Rattle.planning.proofs.Parts.{whole-part}
-use Rattle.steps.proofs.Dealing.{room, few-segments}
-use Rattle.steps.proofs.sweeping.plan_keys.Statement.{statement}
-use Rattle.steps.proofs.sweeping.plan_keys.Tie as tie
+use Rattle.sweeps.proofs.Dealing.{room, few-segments}
+use Rattle.sweeps.proofs.plan_keys.Statement.{statement}
+use Rattle.sweeps.proofs.plan_keys.Tie as tie
 
 -- at the entry: the keys fit the window
 keys-fit : (s : tie.Start) → s .args .m ≤ length (s .args .window .now)

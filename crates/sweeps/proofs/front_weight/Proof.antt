@@ -2,8 +2,8 @@
 use mathlib.Core.Path.{refl}
 use borrow.Author.Needs.{needs}
 use borrow.Author.Tests.{eq-eqb, ne-eqb}
-use Rattle.steps.proofs.sweeping.front_weight.Statement.{statement}
-use Rattle.steps.proofs.sweeping.front_weight.Tie as tie
+use Rattle.sweeps.proofs.front_weight.Statement.{statement}
+use Rattle.sweeps.proofs.front_weight.Tie as tie
 
 weight-of-requires : tie.Need-weight-of-requires
 weight-of-requires c κs = search needs

@@ -9,9 +9,9 @@ use borrow.Author.Needs.{needs}
 use Rattle.forecast.specs.Cells.{usedCells, weight}
 use Rattle.rules.specs.Shares.{Shares, shares}
 use Rattle.rules.specs.SharingOut.{plan}
-use Rattle.steps.proofs.Dealing.{room, one-each, lent-fits, lent-total, dealt}
-use Rattle.steps.proofs.sweeping.deal_out.Statement.{statement}
-use Rattle.steps.proofs.sweeping.deal_out.Tie as tie
+use Rattle.sweeps.proofs.Dealing.{room, one-each, lent-fits, lent-total, dealt}
+use Rattle.sweeps.proofs.deal_out.Statement.{statement}
+use Rattle.sweeps.proofs.deal_out.Tie as tie
 
 -- at the entry: the keys fit the window
 module _ (s : tie.Start) where

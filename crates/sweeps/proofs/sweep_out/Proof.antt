@@ -11,10 +11,10 @@ use Rattle.moves.specs.Moves.{closed}
 use Rattle.slots.proofs.Rising.{cut-rising}
 use Rattle.rules.specs.Shares.{shares}
 use Rattle.rules.specs.Readings.{Limits}
-use Rattle.steps.specs.Sweeps.{Windowed, shared}
-use Rattle.steps.proofs.InWindow.{sized, sized-level, keys-few, counts-fit, many, rising, among, taken-out}
-use Rattle.steps.proofs.sweeping.sweep_out.Statement.{statement}
-use Rattle.steps.proofs.sweeping.sweep_out.Tie as tie
+use Rattle.sweeps.specs.Sweeps.{Windowed, shared}
+use Rattle.sweeps.proofs.InWindow.{sized, sized-level, keys-few, counts-fit, many, rising, among, taken-out}
+use Rattle.sweeps.proofs.sweep_out.Statement.{statement}
+use Rattle.sweeps.proofs.sweep_out.Tie as tie
 
 module _ (s : tie.Start) where
   abbrev win : List ℕ

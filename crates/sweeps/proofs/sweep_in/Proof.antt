@@ -11,11 +11,11 @@ use Rattle.moves.specs.Moves.{opened}
 use Rattle.slots.proofs.Rising.{put-rising}
 use Rattle.rules.specs.Shares.{shares}
 use Rattle.rules.specs.Readings.{Limits}
-use Rattle.steps.specs.Sweeps.{Windowed, shared}
-use Rattle.steps.proofs.Dealing.{room}
-use Rattle.steps.proofs.InWindow.{sized, sized-level, counts-fit, many, rising, put-in}
-use Rattle.steps.proofs.sweeping.sweep_in.Statement.{statement}
-use Rattle.steps.proofs.sweeping.sweep_in.Tie as tie
+use Rattle.sweeps.specs.Sweeps.{Windowed, shared}
+use Rattle.sweeps.proofs.Dealing.{room}
+use Rattle.sweeps.proofs.InWindow.{sized, sized-level, counts-fit, many, rising, put-in}
+use Rattle.sweeps.proofs.sweep_in.Statement.{statement}
+use Rattle.sweeps.proofs.sweep_in.Tie as tie
 
 module _ (s : tie.Start) where
   abbrev win : List ℕ

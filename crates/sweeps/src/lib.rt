@@ -13,7 +13,7 @@ ghost use Rattle.slots.specs.Keys.{member, put, cut};
 ghost use Rattle.rules.specs.Shares.{shares};
 ghost use Rattle.rules.specs.SharingOut.{plan};
 ghost use Rattle.shares.specs.Rows.{Rows};
-ghost use Rattle.steps.specs.Sweeps.{Weighs, Packs, Windowed, shared};
+ghost use Rattle.sweeps.specs.Sweeps.{Weighs, Packs, Windowed, shared};
 use forecast::Forecast;
 use shares::Shape;
 

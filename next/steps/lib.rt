@@ -1,0 +1,17 @@
+// Requests worked on a list that has been checked, one after the other.
+pub mod acting;
+pub mod sweeping;
+pub mod working;
+
+use forecast::Forecast;
+use rules::Tally;
+use rules::Verdict;
+
+// What records come to: the forecast then, what was counted, what stopped them, if anything did, the last request's verdict, and the keys then.
+pub struct Worked {
+    pub forecast: Forecast,
+    pub tally: Tally,
+    pub stop: Verdict,
+    pub last: Verdict,
+    pub keys: usize,
+}

@@ -69,17 +69,20 @@ pub fn put_first8(xs: &mut [u8; 12], v: u8)
     ];
 }
 
-// The first of the first `n` markers that is `marker`, or `n`.
-pub fn first_of(markers: &[u64], n: usize, marker: u64) -> usize
-    requires { ⌜ n ≤ length (now markers) ⌝ }
+// The first of the first `n` markers that is `marker`, or `n`. All 12 are looked at: a loop of one length.
+pub fn first_of(markers: &[u64; 12], n: usize, marker: u64) -> usize
+    requires { ⌜ (n ≤ 12) × (length (now markers) ≡ 12) ⌝ }
     ensures { λ r. ⌜ r ≡ placeBy (λ m. eqb m marker) (take n (now (markers .entry))) ⌝ }
 {
     let mut i: usize = 0;
-    while i < n {
+    while i < 12 {
         if markers[i] == marker {
-            return i;
+            if i < n {
+                return i;
+            }
+            return n;
         }
         i += 1;
     }
-    i
+    n
 }

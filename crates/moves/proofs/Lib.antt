@@ -2,4 +2,5 @@ pub mod Moving
 pub mod Gaps
 pub mod Packing
 pub mod Fours
-pub mod Spreading
+pub mod Laying
+pub mod Inserting

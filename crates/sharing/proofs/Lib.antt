@@ -1,5 +1,3 @@
-pub mod CellMarks
+pub mod FirstSlots
 pub mod Halves
-pub mod Inserted
-pub mod Spots
 pub mod ByLevel

@@ -1,0 +1,5 @@
+pub mod Inserted
+pub mod Spots
+pub mod CellMarks
+pub mod Standing
+pub mod Handed

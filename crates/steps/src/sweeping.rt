@@ -1,0 +1,104 @@
+// A sweep: its plan, made before anything is written, and the sweep by it.
+ghost use mathlib.Core.Path.{_≡_};
+ghost use mathlib.Core.List.{List};
+ghost use Prim.Native.Nat.{ℕ, _+_, _*_, _^_, _≤_};
+ghost use lib.Dec.{eqb};
+ghost use lib.ListN.{length, take, drop};
+ghost use Rattle.lists.specs.Choice.{if_then_else_};
+ghost use Rattle.lists.specs.Lists.{splice};
+ghost use Rattle.forecast.specs.Cells.{usedCells, weight};
+ghost use Rattle.forecast.specs.Tidy.{Tidy};
+ghost use Rattle.steps.specs.Acts.{outcomeOf, Acting, Noted, Planned, Left};
+use aims::Aim;
+use forecast::Forecast;
+use marks::Window;
+use shares::Shape;
+
+// The front's weight, in a window that begins at segment 0.
+fn front_weight(forecast: Forecast, first: usize) -> usize
+    requires { ⌜ Tidy forecast ⌝ }
+    ensures { λ r. ⌜ r ≡ (if eqb first 0 then weight (usedCells forecast) 0 else 0) ⌝ }
+{
+    if first == 0 {
+        return forecast.weight_of(0);
+    }
+    0
+}
+
+// How many keys each segment of the window gets that the request sweeps, into `plan`: the keys that weigh are marked where they will stand.
+pub fn plan_sweep(
+    list: &[u64],
+    counts: &[usize],
+    plan: &mut [usize],
+    forecast: Forecast,
+    shape: Shape,
+    aim: Aim,
+)
+    requires { ⌜ ((F : Forecast) × (bounds : List ℕ) × Acting (now list) F bounds (now counts) shape aim × Noted (now list) F shape aim forecast) ⌝ }
+    requires { ⌜ (1 ≤ aim .level) × (length (now plan) ≡ 64) ⌝ }
+    ensures range { λ _. ⌜ length (now (plan .exit)) ≡ length (now (plan .entry)) ⌝ }
+    ensures plan { λ _. ⌜ ((F : Forecast) (bounds : List ℕ) → Acting (now (list .entry)) F bounds (now (counts .entry)) shape aim → Noted (now (list .entry)) F shape aim forecast → Planned (now (list .entry)) F shape aim (now (plan .exit))) ⌝ }
+{
+    let level = aim.level;
+    let segment = aim.segment;
+    let n = shares::power(level);
+    let first = segment / n * n;
+    let w = Window {
+        first,
+        n,
+        key: aim.key,
+        grows: aim.grows,
+    };
+    let mut at = [0; 12];
+    let mut weights = [0; 12];
+    let r = marks::mark(list, counts, forecast, w, &mut at, &mut weights);
+    let front = front_weight(forecast, first);
+    let part = planning::parting::whole(&weights[..r], aim.moves, front);
+    let lows = shape.lows;
+    let highs = shape.highs;
+    planning::splitting::plan_window(
+        &at[..r],
+        &weights[..r],
+        part,
+        &lows,
+        &highs,
+        level,
+        &mut plan[..n],
+    );
+}
+
+// The counts of a plan in their places, from `first` on.
+fn keep(counts: &mut [usize], first: usize, plan: &[usize])
+    requires { ⌜ first + length (now plan) ≤ length (now counts) ⌝ }
+    ensures { λ _. ⌜ now (counts .exit) ≡ splice first (length (now (plan .entry))) (now (plan .entry)) (now (counts .entry)) ⌝ }
+{
+    let mut i = 0;
+    while i < plan.len() {
+        counts[first + i] = plan[i];
+        i += 1;
+    }
+}
+
+// The window swept by its plan, with the bounds and the counts of its segments.
+pub fn sweep(list: &mut [u64], counts: &mut [usize], bounds: &mut [u64], plan: &[usize], aim: Aim)
+    requires { ⌜ ((F : Forecast) × (shape : Shape) × Acting (now list) F (now bounds) (now counts) shape aim × Planned (now list) F shape aim (now plan)) ⌝ }
+    requires { ⌜ (1 ≤ aim .level) × (length (now plan) ≡ 64) ⌝ }
+    ensures { λ _. ⌜ ((F : Forecast) (shape : Shape) → Acting (now (list .entry)) F (now (bounds .entry)) (now (counts .entry)) shape aim → Planned (now (list .entry)) F shape aim (now (plan .entry)) → Left (outcomeOf (now (list .entry)) F shape aim) (now (list .exit)) (now (bounds .exit)) (now (counts .exit))) ⌝ }
+{
+    let segment = aim.segment;
+    let n = shares::power(aim.level);
+    let first = segment / n * n;
+    let a = 64 * first;
+    let e = a + 64 * n;
+    let p = marks::before_in(counts, first, segment) + aim.at;
+    sowing::sow(
+        &mut list[a..e],
+        &counts[first..first + n],
+        &plan[..n],
+        p,
+        aim.key,
+        aim.grows,
+    );
+    keep(counts, first, &plan[..n]);
+    seeking::bounding::rebound(list, bounds, first, first + n);
+}

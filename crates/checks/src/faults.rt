@@ -25,8 +25,8 @@ fn is_zero(cell: Cell) -> bool
 }
 
 // What is wrong with cell `i` of a forecast that uses `used` of its cells and has these markers, if anything.
-fn fault_at(cell: Cell, i: usize, used: usize, markers: &[u64; 12], p: usize, list: &[u64]) -> Fault
-    requires { ⌜ (i < 12) × (length (now markers) ≡ 12) × (64 ≤ length (now list)) ⌝ }
+fn fault_at(cell: Cell, i: usize, used: usize, markers: &[u64], p: usize, list: &[u64]) -> Fault
+    requires { ⌜ (i < length (now markers)) × (64 ≤ length (now list)) ⌝ }
     ensures { λ r. ⌜ ((F : Forecast) (ss : Segments) → CellOf F i cell used (now (markers .entry)) → Shows ss (now (list .entry)) → r ≡ faultAt p ss F i) ⌝ }
 {
     if used <= i {

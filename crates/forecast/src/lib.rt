@@ -1,14 +1,14 @@
 // The forecast: what the latest inserts noted, newest first.
 ghost use mathlib.Core.Path.{_≡_};
 ghost use mathlib.Core.List.{[]};
-ghost use Prim.Native.Nat.{_+_, _≤_, _<_};
+ghost use Prim.Native.Nat.{_+_, _*_, _≤_, _<_};
 ghost use lib.ListN.{length};
 ghost use Rattle.slots.specs.Segments.{Segments};
-ghost use Rattle.slots.specs.Keys.{Listed, segmentOf};
-ghost use Rattle.seeking.specs.Bounds.{Bounded};
+ghost use Rattle.slots.specs.Keys.{segmentOf};
+ghost use Rattle.slots.specs.Shown.{Shows};
 ghost use Rattle.forecast.specs.Cells.{usedCells, weight};
 ghost use Rattle.forecast.specs.Steps.{tailed, noted, dropped, retargeted};
-ghost use Rattle.forecast.specs.Tidy.{Tidy, Became, Marker, Live, Outside, Elsewhere};
+ghost use Rattle.forecast.specs.Tidy.{Tidy, Became, Marker, Live};
 
 pub mod row;
 
@@ -145,33 +145,31 @@ impl Forecast {
         0
     }
 
-    // Every cell of the `n` segments from `first` on names its marker's actual segment, by the bounds of segments; the others do as they are.
-    pub fn retarget(mut self, bounds: &[u64], first: usize, n: usize) -> Forecast
+    // Every cell names its marker's actual segment, which a search finds.
+    pub fn retarget(mut self, list: &[u64]) -> Forecast
         requires { ⌜ Tidy self ⌝ }
-        requires { ⌜ (length (now bounds) ≡ 64) × (first + n ≤ 64) ⌝ }
-        ensures { λ r. ⌜ (Tidy r) × ((ss : Segments) → Listed ss → 0 < length ss → length ss ≤ 64 → Bounded 1 ss (now (bounds .entry)) → Live ss self → Elsewhere ss first n self → Became (retargeted (segmentOf ss) (usedCells self)) r) ⌝ }
+        requires { ⌜ (64 ≤ length (now list)) × (length (now list) ≤ 4096) ⌝ }
+        ensures { λ r. ⌜ (Tidy r) × ((ss : Segments) → Shows ss (now (list .entry)) → Live ss self → Became (retargeted (segmentOf ss) (usedCells self)) r) ⌝ }
     {
         let used = self.used;
         let mut i: usize = 0;
         while i < used {
-            self.segments[i] = aim(self.segments[i], self.markers[i], bounds, first, n);
+            let segment = segment_of(list, self.markers[i]);
+            self.segments[i] = segment as u8;
             i += 1;
         }
         self
     }
 }
 
-// The segment of a cell that named `segment`: its marker's, by the bounds, where that was one of the `n` from `first` on; else the same.
-fn aim(segment: u8, marker: u64, bounds: &[u64], first: usize, n: usize) -> u8
-    requires { ⌜ (length (now bounds) ≡ 64) × (first + n ≤ 64) ⌝ }
-    ensures { λ r. ⌜ ((ss : Segments) → Listed ss → length ss ≤ 64 → Bounded 1 ss (now (bounds .entry)) → Marker ss marker → (Outside first n segment → segment ≡ segmentOf ss marker) → r ≡ segmentOf ss marker) ⌝ }
+// The segment of a marker that is live; 0 for the front.
+fn segment_of(list: &[u64], marker: u64) -> usize
+    requires { ⌜ 64 ≤ length (now list) ⌝ }
+    ensures range { λ r. ⌜ 64 * r + 64 ≤ length (now (list .entry)) ⌝ }
+    ensures place { λ r. ⌜ ((ss : Segments) → Shows ss (now (list .entry)) → Marker ss marker → r ≡ segmentOf ss marker) ⌝ }
 {
-    let s = row::wide(segment);
-    if s < first {
-        return segment;
+    if marker == 0 {
+        return 0;
     }
-    if first + n <= s {
-        return segment;
-    }
-    seeking::finding::seat_of(bounds, marker) as u8
+    slots::finding::find_segment(list, marker)
 }

@@ -69,20 +69,17 @@ pub fn put_first8(xs: &mut [u8; 12], v: u8)
     ];
 }
 
-// The first of the first `n` markers that is `marker`, or `n`. All 12 are looked at: a loop of one length.
-pub fn first_of(markers: &[u64; 12], n: usize, marker: u64) -> usize
-    requires { ⌜ (n ≤ 12) × (length (now markers) ≡ 12) ⌝ }
+// The first of the first `n` markers that is `marker`, or `n`.
+pub fn first_of(markers: &[u64], n: usize, marker: u64) -> usize
+    requires { ⌜ n ≤ length (now markers) ⌝ }
     ensures { λ r. ⌜ r ≡ placeBy (λ m. eqb m marker) (take n (now (markers .entry))) ⌝ }
 {
     let mut i: usize = 0;
-    while i < 12 {
+    while i < n {
         if markers[i] == marker {
-            if i < n {
-                return i;
-            }
-            return n;
+            return i;
         }
         i += 1;
     }
-    n
+    i
 }

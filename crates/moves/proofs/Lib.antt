@@ -2,5 +2,4 @@ pub mod Moving
 pub mod Gaps
 pub mod Packing
 pub mod Fours
-pub mod Laying
-pub mod Inserting
+pub mod Spreading

@@ -7,7 +7,6 @@ ghost use Rattle.moves.specs.Layout.{render};
 ghost use Rattle.moves.specs.Moves.{moved, cleared, opened, closed, Packed};
 
 mod by_four;
-pub mod spreading;
 
 // As move_left, one slot at a time.
 fn few_left(part: &mut [u64], from: usize, to: usize, count: usize)

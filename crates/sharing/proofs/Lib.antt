@@ -1,3 +1,5 @@
-pub mod FirstSlots
+pub mod CellMarks
 pub mod Halves
+pub mod Inserted
+pub mod Spots
 pub mod ByLevel

@@ -1,4 +1,4 @@
-// What a sweep stands on beside the plan: the table of shares, the marks, and the climb.
+// What a sweep stands on beside the plan: the marks and the climb.
 pub mod climbing;
 pub mod marking;
 

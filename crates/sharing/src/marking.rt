@@ -3,16 +3,31 @@ ghost use mathlib.Core.Path.{_≡_};
 ghost use Prim.Native.Nat.{_+_, _≤_, _<_};
 ghost use mathlib.Core.List.{map};
 ghost use lib.ListN.{length, take};
+ghost use Rattle.lists.specs.Lists.{insertAt};
 ghost use Rattle.slots.specs.Keys.{Rising};
 ghost use Rattle.forecast.specs.Cells.{usedCells, weight};
 ghost use Rattle.forecast.specs.Tidy.{Tidy, Fitting};
 ghost use Rattle.planning.specs.Marks.{Marked};
-ghost use Rattle.marks.specs.Marking.{OneMarked};
+ghost use Rattle.sharing.specs.Steps.{OneMarked};
 use forecast::Cell;
 use forecast::Forecast;
-use marks::put_in;
 use planning::passing::mark_from;
 use slots::finding::position;
+
+// `v` put in front of the number at `k`, of the first `n`.
+fn put_in(xs: &mut [usize], n: usize, k: usize, v: usize)
+    requires { ⌜ (k ≤ n) × (n < length (now xs)) ⌝ }
+    ensures { λ _. ⌜ take (n + 1) (now (xs .exit)) ≡ insertAt k v (take n (now (xs .entry))) ⌝ }
+{
+    let mut carry = v;
+    let mut i = k;
+    while i <= n {
+        let here = xs[i];
+        xs[i] = carry;
+        carry = here;
+        i += 1;
+    }
+}
 
 // One cell's mark, if its marker is among the first `m` slots; the answer is how many marks there are then.
 fn mark_cell(

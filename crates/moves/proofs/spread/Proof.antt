@@ -7,7 +7,7 @@ use lib.Seq.{take-take, take-length}
 use Rattle.moves.specs.Moves.{moved, cleared}
 use Rattle.lists.specs.Lists.{total}
 use Rattle.moves.proofs.Packing.{total-bound, total-all, total-pred}
-use Rattle.moves.proofs.Laying.{Laid, laid-none, laid-all, laid-front, laid-down}
+use Rattle.moves.proofs.Spreading.{Laid, laid-none, laid-all, laid-front, laid-down}
 use Rattle.moves.proofs.spread.Statement.{statement}
 use Rattle.moves.proofs.spread.Tie as tie
 

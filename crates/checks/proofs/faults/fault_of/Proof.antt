@@ -54,7 +54,7 @@ wide-requires-2 : tie.Need-wide-requires-2 Inv-loop μ-loop
 wide-requires-2 c κs = tt
 
 fault-at-requires : tie.Need-fault-at-requires Inv-loop μ-loop
-fault-at-requires c κs = (omega arith, search needs, omega arith)
+fault-at-requires c κs = (search needs, omega arith)
 
 is-sound-requires : tie.Need-is-sound-requires Inv-loop μ-loop
 is-sound-requires c κs = tt
@@ -62,7 +62,7 @@ is-sound-requires c κs = tt
 returns-3 : tie.Need-returns-3 Inv-loop μ-loop
 returns-3 c ss sh l =
     let a = c .before .before in
-    let w = a .before .before .before in
+    let w = a .before .before .before .before in
     let m = w .before .before .before .before .before .before in
     let s = m .before .before .before .before in
     let o = roomy-cell (s .args .t1) (roomy s) (m .loop .i) (omega arith) _ _ (w .before .before .wide .ensures) (w .wide2 .ensures) in
@@ -79,7 +79,7 @@ loop-less c = omega arith
 loop-again : tie.Need-loop-again Inv-loop μ-loop
 loop-again c =
     let a = c .before .before in
-    let w = a .before .before .before in
+    let w = a .before .before .before .before in
     let m = w .before .before .before .before .before .before in
     let s = m .before .before .before .before in
     let o = roomy-cell (s .args .t1) (roomy s) (m .loop .i) (omega arith) _ _ (w .before .before .wide .ensures) (w .wide2 .ensures) in (

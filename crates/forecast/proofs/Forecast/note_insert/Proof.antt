@@ -29,7 +29,7 @@ element-write-self c = search needs
 
 returns : tie.Need-returns
 returns c =
-    let s = c .before .before .before .before .before .before .before .before in
+    let s = c .before .before .before .before .before .before .before .before .before in
     let a = c .before .before .before .before .before in
     let k : getD (s .args .t1 .counts) (a .first-of .result) 0 < s .args .p = omega arith in
     rw (is-raised (s .args .t1) (s .pre .0) _ _ _ _ (a .first-of .ensures) (c .before .before .before .before .if1 .taken) k)
@@ -47,7 +47,7 @@ ahead-requires c κs = search needs
 returns-2 : tie.Need-returns-2
 returns-2 c =
     let d = c .before .before .before .before .before .before in
-    let s = d .before .before .before .before .before .before .before .before in
+    let s = d .before .before .before .before .before .before .before .before .before in
     let a = d .before .before .before .before .before in
     let k : getD (s .args .t1 .counts) (a .first-of .result) 0 < s .args .p = omega arith in
     rw (is-raised (s .args .t1) (s .pre .0) _ _ _ _ (a .first-of .ensures) (d .before .before .before .before .if1 .taken) k)
@@ -71,18 +71,18 @@ put-first-requires c κs = search needs
 returns-3 : tie.Need-returns-3
 returns-3 c =
     let d = c .before .before .before .before .before .before in
-    let s = d .before .before .before .before .before in
+    let s = d .before .before .before .before .before .before in
     let a = d .before .before in
     rw (is-new (s .args .t1) (s .pre .0) _ _ _ _ (a .first-of .ensures) (d .before .if1 .left) (d .if4 .taken))
     (pushed (s .args .t1) (s .pre .0) _ _ (omega arith) _ _ _ (c .put-first .ensures) (c .before .before .before .before .put-first8 .ensures) (c .before .before .put-first82 .ensures))
 
 -- where the two ways meet: some cell is used, and the tail's count drops
-pos : (j : tie.Joined1) → 0 < j .before .before .before .before .args .t1 .used
+pos : (j : tie.Joined1) → 0 < j .before .before .before .before .before .args .t1 .used
 pos j = ⊎-elim (λ w. omega arith) (λ w. omega arith) (j .if1 .came)
 
-spent : (j : tie.Joined1) → noted (j .before .before .before .before .args .p) (j .before .before .before .before .args .marker) (j .before .before .before .before .args .segment) (usedCells (j .before .before .before .before .args .t1)) ≡ tailed (usedCells (j .before .before .before .before .args .t1))
+spent : (j : tie.Joined1) → noted (j .before .before .before .before .before .args .p) (j .before .before .before .before .before .args .marker) (j .before .before .before .before .before .args .segment) (usedCells (j .before .before .before .before .before .args .t1)) ≡ tailed (usedCells (j .before .before .before .before .before .args .t1))
 spent j =
-    let s = j .before .before .before .before in
+    let s = j .before .before .before .before .before in
     ⊎-elim
     (λ w. is-spent (s .args .t1) (s .pre .0) _ _ _ _ (j .before .first-of .ensures) (w .0 .taken) (omega arith))
     (λ w. is-full (s .args .t1) (s .pre .0) _ _ _ _ (j .before .first-of .ensures) (w .0 .left) (w .1 .left))
@@ -90,7 +90,7 @@ spent j =
 
 lower-tail-requires : tie.Need-lower-tail-requires
 lower-tail-requires c κs =
-    let s = c .before .before .before .before in
+    let s = c .before .before .before .before .before in
     (s .pre .0, pos c)
 
 returns-4 : tie.Need-returns-4

@@ -8,13 +8,13 @@ use Rattle.slots.specs.Keys.{Rising}
 use Rattle.forecast.specs.Cells.{usedCells}
 use Rattle.forecast.specs.Tidy.{Fitting}
 use Rattle.forecast.proofs.Stepping.{cells-used, tidy-roomy, roomy-cell}
-use Rattle.marks.proofs.CellMarks.{MarkedBy, marking-none, marking-next}
+use Rattle.sharing.proofs.CellMarks.{Marking, marking-none, marking-next}
 use Rattle.sharing.proofs.marking.mark.Statement.{statement}
 use Rattle.sharing.proofs.marking.mark.Tie as tie
 
 abbrev Inv-loop : tie.InvT-loop
 Inv-loop window m at₀ weights₀ f used n₀ i₀ at weights n i =
-    (i ≤ used) × (n ≤ i) × ((length at ≡ 12) × (length weights ≡ 12)) × (Rising (take m window) → Fitting f → MarkedBy (take i (usedCells f)) (take m window) (take n at) (take n weights))
+    (i ≤ used) × (n ≤ i) × ((length at ≡ 12) × (length weights ≡ 12)) × (Rising (take m window) → Fitting f → Marking (take i (usedCells f)) (take m window) (take n at) (take n weights))
 
 abbrev μ-loop : tie.MeasureT-loop
 μ-loop window m at₀ weights₀ f used n₀ i₀ at weights n i = used - i

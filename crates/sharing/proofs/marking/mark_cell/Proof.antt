@@ -1,8 +1,7 @@
 -- `mark_cell` puts one cell's mark among the others, if its marker is among the keys.
 use native.Mathlib.Omega.{arith}
 use lib.ListN.{take}
-use Rattle.marks.proofs.CellMarks.{one-none, one-put}
-use Rattle.sharing.proofs.FirstSlots.{none-past, none-there, one-there}
+use Rattle.sharing.proofs.CellMarks.{none-past, none-there, one-there, one-none, one-put}
 use borrow.Author.Needs.{needs}
 use Rattle.sharing.proofs.marking.mark_cell.Statement.{statement}
 use Rattle.sharing.proofs.marking.mark_cell.Tie as tie

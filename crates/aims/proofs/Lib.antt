@@ -1,6 +1,0 @@
-pub mod Grown
-pub mod Standing
-pub mod Places
-pub mod Answers
-pub mod AimedIn
-pub mod AimedOut

@@ -1,5 +1,0 @@
-pub mod Inserted
-pub mod Spots
-pub mod CellMarks
-pub mod Standing
-pub mod Handed

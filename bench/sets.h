@@ -1,7 +1,10 @@
-// The sets that are compared on the same work: the archive's list, by runs and by single calls, std::set and a sorted std::vector.
+// The sets that are compared on the same work: the archive's list, by runs and by single calls, std::set, abseil's btree_set and
+// a sorted std::vector.
 // Each: work(requests) puts a pattern in and gives the number accepted; has(key); scan(from, output, room) as the archive's scan.
 #ifndef BENCH_SETS_H
 #define BENCH_SETS_H
+#include <absl/container/btree_set.h>
+
 #include <algorithm>
 #include <set>
 
@@ -38,9 +41,8 @@ struct Calls : List {
   bool erase(uint64_t key) { return List::work({false, key}, moves); }
 };
 
-struct Tree {
-  static constexpr const char *name = "std::set";
-  std::set<uint64_t> keys;
+template <class Keys> struct Tree {
+  Keys keys;
   bool insert(uint64_t key) { return keys.insert(key).second; }
   bool erase(uint64_t key) { return keys.erase(key) == 1; }
   bool has(uint64_t key) const { return keys.find(key) != keys.end(); }
@@ -49,6 +51,14 @@ struct Tree {
     for (auto i = keys.upper_bound(from); n < room && i != keys.end(); ++i) output[n++] = *i;
     return n;
   }
+};
+
+struct Binary : Tree<std::set<uint64_t>> {
+  static constexpr const char *name = "std::set";
+};
+
+struct Broad : Tree<absl::btree_set<uint64_t>> {
+  static constexpr const char *name = "absl::btree_set";
 };
 
 struct Sorted {

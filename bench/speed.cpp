@@ -80,12 +80,14 @@ int main(int, char **argv) {
   for (const Pattern &p : all) {
     requests<Runs>(rows, p);
     requests<Singly<Calls>>(rows, p);
-    requests<Singly<Tree>>(rows, p);
+    requests<Singly<Binary>>(rows, p);
+    requests<Singly<Broad>>(rows, p);
     requests<Singly<Sorted>>(rows, p);
   }
   const Pattern &random = all[3];
   check<Singly<Calls>>(rows, random);
   reading<Singly<Calls>>(rows, random);
-  reading<Singly<Tree>>(rows, random);
+  reading<Singly<Binary>>(rows, random);
+  reading<Singly<Broad>>(rows, random);
   reading<Singly<Sorted>>(rows, random);
 }

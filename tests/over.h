@@ -1,4 +1,4 @@
-/* The run over a lent record of totals: forecast, totals and reply as crate `run` has them. Not among the calls of the header, which take
+/* The run over a lent record of totals: forecast, totals and reply as crate `told` has them. Not among the calls of the header, which take
    words; asked for as they are, and answered in the same words. */
 #include "ffalwenog.h"
 

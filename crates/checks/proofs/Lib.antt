@@ -1,2 +1,1 @@
-pub mod CellChecks
 pub mod Numbers

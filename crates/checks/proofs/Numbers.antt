@@ -1,4 +1,4 @@
--- The number that a check gives, case by case: of the list alone, and of list and forecast.
+-- The number that a check gives, case by case: of the list alone, and of list and forecast; and what a listing then promises.
 use mathlib.Core.Path.{_≡_, sym, ap, _∙_, subst}
 use mathlib.Core.Bool.{true, false}
 use mathlib.Core.Logic.{_≢_}
@@ -9,6 +9,8 @@ use borrow.Author.Tests.{eq-eqb, ne-eqb, lt-ltb, le-ltb}
 use lib.ListN.{length}
 use Rattle.slots.specs.Segments.{live, heightOf, segmentsOf}
 use Rattle.slots.specs.Orders.{orderOf, isKept}
+use Rattle.slots.specs.Shown.{Tallied}
+use Rattle.seeking.proofs.Counts.{counts-front}
 use Rattle.forecast.specs.declared.Forecast.{Forecast}
 use Rattle.forecast.specs.Faults.{faultOf, isSound}
 use Rattle.rules.specs.Shares.{shares, capacity, cellsOf}
@@ -21,7 +23,7 @@ use Rattle.rules.proofs.Refusals.Told.{refusal-some}
 use Rattle.shares.specs.declared.Shape.{Shape}
 use Rattle.shares.specs.Rows.{Fetched}
 use Rattle.checks.specs.declared.Listing.{Listing}
-use Rattle.checks.specs.Listings.{refusing, Looked}
+use Rattle.checks.specs.Listings.{refusing, Looked, Counting}
 
 -- THE LIST
 module _ (slots : List ℕ) where
@@ -64,12 +66,20 @@ refused-some v x q z = let e : verdictNumber v ≡ refusalNumber x = ap verdictN
 pub refetched : (h : ℕ) (k : Shape) → Fetched (shares h) k → Fetched (shares (k .height)) k
 refetched h k f = subst (λ (n : ℕ). Fetched (shares n) k) (sym (f .height)) f
 
--- A LISTING that tells a refusal
-pub looked-refused : (slots : List ℕ) (n : ℕ) (x : Refusal) (r : Listing) → r ≡ refusing x → n ≡ refusalNumber x → Looked slots n r
-looked-refused slots n x r q e = record { number = ap verdictNumber v ∙ sym e; height = λ a. absurd (differ a); shape = λ a. absurd (differ a); keys = λ a. absurd (differ a) }
-  where
-    v : r .verdict ≡ Refused x
-    v = ap (λ (l : Listing). l .verdict) q
+-- A LISTING that tells a refusal: it promises nothing of the counts
+module _ (slots : List ℕ) (x : Refusal) (r : Listing) (q : r ≡ refusing x) where
+  v : r .verdict ≡ Refused x
+  v = ap (λ (l : Listing). l .verdict) q
 
-    differ : r .verdict ≡ Accepted → ⊥
-    differ a = refused-some (r .verdict) x v (ap verdictNumber a)
+  differ : r .verdict ≡ Accepted → ⊥
+  differ a = refused-some (r .verdict) x v (ap verdictNumber a)
+
+  pub looked-refused : (n : ℕ) → n ≡ refusalNumber x → Looked slots n r
+  looked-refused n e = record { number = ap verdictNumber v ∙ sym e; height = λ a. absurd (differ a); shape = λ a. absurd (differ a); keys = λ a. absurd (differ a) }
+
+  pub counting-refused : (counts : List ℕ) → length counts ≡ 64 → Counting slots r counts
+  counting-refused counts l = record { long = l; each = λ a. absurd (differ a) }
+
+-- any listing where the order is kept
+pub counting-kept : (slots counts counts′ : List ℕ) (r : Listing) → length counts ≡ 64 → Tallied slots counts counts′ → isKept (orderOf slots) ≡ true → Counting slots r counts′
+counting-kept slots counts counts′ r l t k = record { long = t .long ∙ l; each = λ a. counts-front (segmentsOf slots) counts′ _ (t .places (rw k tt)) }

@@ -1,9 +1,9 @@
 -- What a check finds.
-use Prim.Native.Nat.{ℕ}
+use Prim.Native.Nat.{ℕ, _<_}
 use mathlib.Core.Path.{_≡_}
-use mathlib.Core.List.{List}
-use lib.ListN.{length}
-use Rattle.slots.specs.Segments.{live, heightOf}
+use mathlib.Core.List.{List, []}
+use lib.ListN.{length, getD}
+use Rattle.slots.specs.Segments.{live, heightOf, segmentsOf}
 use Rattle.forecast.specs.declared.Forecast.{Forecast}
 use Rattle.rules.specs.declared.Refusal.{Refusal}
 use Rattle.rules.specs.declared.Verdict.the-variants.{Refused, Accepted}
@@ -30,3 +30,8 @@ ListLooked slots r = Looked slots (checkList slots) r
 
 abbrev pub BothLooked : List ℕ → Forecast → Listing → Type 0
 BothLooked slots F r = Looked slots (check slots F) r
+
+-- Where the check accepts, each segment has its number of keys in its place.
+pub record Counting (slots : List ℕ) (r : Listing) (counts : List ℕ) : Type 0 where
+  pub long : length counts ≡ 64
+  pub each : r .verdict ≡ Accepted → (k : ℕ) → k < length (segmentsOf slots) → getD counts k 0 ≡ length (getD (segmentsOf slots) k [])

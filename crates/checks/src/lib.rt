@@ -1,9 +1,7 @@
 // The check of what is lent: refusals 1 to 4.
 ghost use mathlib.Core.Path.{_≡_};
-ghost use Rattle.checks.specs.Listings.{refusing, ListLooked, BothLooked};
-
-pub mod faults;
-
+ghost use lib.ListN.{length};
+ghost use Rattle.checks.specs.Listings.{refusing, ListLooked, BothLooked, Counting};
 use forecast::Forecast;
 use rules::Refusal;
 use rules::Verdict;
@@ -27,16 +25,17 @@ fn refuse(refusal: Refusal) -> Listing
     }
 }
 
-// Refusals 1 to 3, of any slots.
-pub fn look_over(list: &[u64]) -> Listing
-    ensures { λ r. ⌜ ListLooked (now (list .entry)) r ⌝ }
+// Refusals 1 to 3, of any slots; where it accepts, the number of keys of each segment is in its place of `counts`.
+pub fn look_over(list: &[u64], counts: &mut [usize]) -> Listing
+    requires { ⌜ length (now counts) ≡ 64 ⌝ }
+    ensures looked { λ r. ⌜ ListLooked (now (list .entry)) r ⌝ }
+    ensures counts { λ r. ⌜ Counting (now (list .entry)) r (now (counts .exit)) ⌝ }
 {
-    let height = reading::height_of(list.len());
+    let height = slots::heights::height_of(list.len());
     if height == 0 {
         return refuse(Refusal::WrongLength);
     }
-    let mut counts = [0; 64];
-    let reading = reading::read_slots(list, &mut counts);
+    let reading = reading::read_slots(list, counts);
     let order = reading.order;
     if !reading::is_kept(order) {
         return refuse(Refusal::WrongOrder);
@@ -52,11 +51,13 @@ pub fn look_over(list: &[u64]) -> Listing
     }
 }
 
-// Refusals 1 to 4, of any slots and any forecast.
-pub fn look_over_both(list: &[u64], forecast: Forecast) -> Listing
-    ensures { λ r. ⌜ BothLooked (now (list .entry)) forecast r ⌝ }
+// Refusals 1 to 4, of any slots and any forecast; the counts as above.
+pub fn look_over_both(list: &[u64], forecast: Forecast, counts: &mut [usize]) -> Listing
+    requires { ⌜ length (now counts) ≡ 64 ⌝ }
+    ensures looked { λ r. ⌜ BothLooked (now (list .entry)) forecast r ⌝ }
+    ensures counts { λ r. ⌜ Counting (now (list .entry)) r (now (counts .exit)) ⌝ }
 {
-    let listing = look_over(list);
+    let listing = look_over(list, counts);
     let verdict = listing.verdict;
     if let Verdict::Refused(_) = verdict {
         return listing;

@@ -3,16 +3,15 @@ use Prim.Native.Nat.{ℕ, zero, suc, _+_, _-_, _≤_, _<_}
 use mathlib.Core.Path.{_≡_, refl, sym, ap, _∙_}
 use mathlib.Core.List.{List, [], _∷_, _++_, map}
 use native.Mathlib.Omega.{arith}
-use lib.ListN.{length, take, drop, getD, set, replicate, length-map, length-set, length-replicate, replicate-append-replicate, drop-of-length-le, List·getD-map, List·getD-append, List·getD-eq-default}
-use native.Mathlib.Numerals.{add-one}
-use lib.Seq.{take-suc, drop-cons, set-at, getD-take, length-take-le, take-at, take-append-add, set-append-left, set-split, append-snoc, map-set-same}
+use lib.ListN.{length, take, drop, getD, set, replicate, length-map, length-set, length-replicate, replicate-append-replicate, drop-of-length-le, List·getD-map, List·getD-eq-default}
+use lib.Seq.{length-take-le, take-at, take-append-add, set-append-left, set-split, append-snoc, map-set-same}
 use Rattle.lists.specs.Lists.{padded, without}
 use Rattle.lists.proofs.Maps.{map-take, map-set}
 use Rattle.lists.proofs.Fill.{length-padded, getD-padded, set-padded, take-padded, drop-padded, length-without}
 use Rattle.lists.proofs.Overwritten.{written, written-from, written-more, written-ahead, written-done, take-without, getD-without}
+use Rattle.rows.specs.Ahead.{aheadRow}
 use Rattle.forecast.specs.declared.Cell.{Cell}
 use Rattle.forecast.specs.Cells.{cell, zeroCell, zip3, row}
-use Rattle.forecast.specs.Tidy.{aheadRow}
 
 -- CELLS OF ROWS
 -- rows filled with zeros show the cells, and zero cells after them
@@ -79,31 +78,6 @@ padded-more n v xs h =
   where
     take-rep : (k : ℕ) → _≡_ {A = List ℕ} (take k (replicate (k + 1) 0)) (replicate k 0)
     take-rep k = rw (← replicate-append-replicate {A = ℕ} k 1 0) (take-at (replicate k 0) _ k (length-replicate k 0))
-
--- n numbers of a list, one by one
-abbrev pub firsts : ℕ → (ℕ → ℕ) → List ℕ
-firsts zero g = []
-firsts (suc n) g = g 0 ∷ firsts n (λ i. g (suc i))
-
-pub take-firsts : (n : ℕ) (xs : List ℕ) → n ≤ length xs → firsts n (λ i. getD xs i 0) ≡ take n xs
-take-firsts zero xs h = refl
-take-firsts (suc n) [] h = absurd (omega arith)
-take-firsts (suc n) (x ∷ xs) h = ap {B = List ℕ} (λ l. x ∷ l) (take-firsts n xs (omega arith))
-
--- the first n of a list moving back by one, those from i on already moved
-abbrev pub moving : ℕ → List ℕ → ℕ → List ℕ
-moving n xs i = take (i + 1) xs ++ drop i (take n xs)
-
-pub moving-more : (n : ℕ) (xs : List ℕ) (i : ℕ) → i < n → n < length xs → set (moving n xs (i + 1)) (i + 1) (getD (moving n xs (i + 1)) i 0) ≡ moving n xs i
-moving-more n xs i h l =
-    let k : i < length (take (i + 1 + 1) xs) = rw (length-take-le (i + 1 + 1) xs (omega arith)) (omega arith) in
-    let e : getD (moving n xs (i + 1)) i 0 ≡ getD xs i 0 =
-    List·getD-append (take (i + 1 + 1) xs) (drop (i + 1) (take n xs)) 0 i k ∙ getD-take (i + 1 + 1) xs i 0 (omega arith) in
-    let t : take (i + 1 + 1) xs ≡ take (i + 1) xs ++ (getD xs (i + 1) 0 ∷ []) = rw (add-one (i + 1)) (take-suc xs (i + 1) 0 (omega arith)) in
-    let d : drop i (take n xs) ≡ getD xs i 0 ∷ drop (i + 1) (take n xs) =
-    drop-cons (take n xs) i 0 (rw (length-take-le n xs (omega arith)) h) ∙ rw (getD-take n xs i 0 h, add-one i) refl in
-    rw (e, t, append-snoc (take (i + 1) xs) (getD xs (i + 1) 0) (drop (i + 1) (take n xs)), d)
-    (set-at (take (i + 1) xs) (getD xs (i + 1) 0) (drop (i + 1) (take n xs)) (getD xs i 0) (i + 1) (length-take-le (i + 1) xs (omega arith)))
 
 -- ONE FIELD OF CELLS, IN A ROW OF 12
 -- the row overwritten by what is left without the cell at `at`, as far as i

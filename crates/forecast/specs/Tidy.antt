@@ -1,11 +1,12 @@
 -- A forecast between two steps: its used cells, and zeros after them.
-use Prim.Native.Nat.{ℕ, _-_, _≤_, _<_}
+use Prim.Native.Nat.{ℕ, _+_, _≤_, _<_}
 use mathlib.Core.Path.{_≡_}
 use mathlib.Core.Logic.{_⊎_}
 use mathlib.Core.List.{List, List·Memᴰ as Mem}
-use lib.ListN.{length, getD, set}
+use lib.ListN.{length, getD}
 use Rattle.lists.specs.Lists.{All}
 use Rattle.slots.specs.Segments.{Segments, keys}
+use Rattle.slots.specs.Keys.{segmentOf}
 use Rattle.forecast.specs.declared.Cell.{Cell}
 use Rattle.forecast.specs.declared.Forecast.{Forecast}
 use Rattle.forecast.specs.Cells.{zeroCell, cells, usedCells, forecastOf, markersOf}
@@ -26,10 +27,6 @@ pub record Roomy (F : Forecast) : Type 0 where
   pub segments : length (F .segments) ≡ 12
   pub counts : length (F .counts) ≡ 12
 
--- place i of a row changes places with the one before
-abbrev pub aheadRow : ℕ → List ℕ → List ℕ
-aheadRow i xs = set (set xs i (getD xs (i - 1) 0)) (i - 1) (getD xs i 0)
-
 -- 0 for the front, or a live key
 abbrev pub Marker : Segments → ℕ → Type 0
 Marker ss k = (k ≡ 0) ⊎ Mem k (keys ss)
@@ -37,6 +34,14 @@ Marker ss k = (k ≡ 0) ⊎ Mem k (keys ss)
 -- every used cell's marker is one
 abbrev pub Live : Segments → Forecast → Type 0
 Live ss F = All (λ c. Marker ss (c .marker)) (usedCells F)
+
+-- s is none of the n segments from first on
+abbrev pub Outside : ℕ → ℕ → ℕ → Type 0
+Outside first n s = (s < first) ⊎ (first + n ≤ s)
+
+-- every used cell that names none of them names its marker's segment
+abbrev pub Elsewhere : Segments → ℕ → ℕ → Forecast → Type 0
+Elsewhere ss first n F = All (λ c. Outside first n (c .segment) → c .segment ≡ segmentOf ss (c .marker)) (usedCells F)
 
 -- counts of at most 12, and markers that differ
 pub record Fitting (F : Forecast) : Type 0 where

@@ -1,16 +1,14 @@
 // The forecast: what the latest inserts noted, newest first.
 ghost use mathlib.Core.Path.{_≡_};
 ghost use mathlib.Core.List.{[]};
-ghost use Prim.Native.Nat.{_+_, _*_, _≤_, _<_};
+ghost use Prim.Native.Nat.{_+_, _≤_, _<_};
 ghost use lib.ListN.{length};
 ghost use Rattle.slots.specs.Segments.{Segments};
-ghost use Rattle.slots.specs.Keys.{segmentOf};
-ghost use Rattle.slots.specs.Shown.{Shows};
+ghost use Rattle.slots.specs.Keys.{Listed, segmentOf};
+ghost use Rattle.seeking.specs.Bounds.{Bounded};
 ghost use Rattle.forecast.specs.Cells.{usedCells, weight};
-ghost use Rattle.forecast.specs.Steps.{tailed, noted, dropped, retargeted};
-ghost use Rattle.forecast.specs.Tidy.{Tidy, Became, Marker, Live};
-
-pub mod row;
+ghost use Rattle.forecast.specs.Steps.{noted, dropped, retargeted};
+ghost use Rattle.forecast.specs.Tidy.{Tidy, Became, Marker, Live, Outside, Elsewhere};
 
 // A marker is a live key, or 0 for the front of the list.
 pub struct Cell {
@@ -60,40 +58,32 @@ impl Forecast {
         ensures { λ r. ⌜ Became (noted p marker segment (usedCells self)) r ⌝ }
     {
         let used = self.used;
-        let at = row::first_of(&self.markers, used, marker);
+        let at = rows::first_of(&self.markers, used, marker);
         if at < used {
             let count = self.counts[at];
-            if row::wide(count) < p {
+            if rows::wide(count) < p {
                 // One more, and it changes places with its neighbour toward the head.
                 self.counts[at] = count + 1;
                 if at == 0 {
                     return self;
                 }
-                row::ahead8(&mut self.segments, at);
-                row::ahead8(&mut self.counts, at);
-                row::ahead(&mut self.markers, at);
+                rows::ahead8(&mut self.segments, at);
+                rows::ahead8(&mut self.counts, at);
+                rows::ahead(&mut self.markers, at);
                 return self;
             }
         } else {
             if used < p {
                 // A new cell at the head.
-                row::put_first8(&mut self.segments, segment as u8);
-                row::put_first8(&mut self.counts, 1);
+                rows::put_first8(&mut self.segments, segment as u8);
+                rows::put_first8(&mut self.counts, 1);
                 self.used = used + 1;
-                row::put_first(&mut self.markers, marker);
+                rows::put_first(&mut self.markers, marker);
                 return self;
             }
         }
-        self.lower_tail()
-    }
-
-    // One less for the tail, which goes when its count is spent.
-    fn lower_tail(mut self) -> Forecast
-        requires { ⌜ Tidy self ⌝ }
-        requires { ⌜ 0 < self .used ⌝ }
-        ensures { λ r. ⌜ Became (tailed (usedCells self)) r ⌝ }
-    {
-        let tail = self.used - 1;
+        // One less for the tail, which goes when its count is spent.
+        let tail = used - 1;
         let count = self.counts[tail];
         if count <= 1 {
             self.counts[tail] = 0;
@@ -112,7 +102,7 @@ impl Forecast {
         ensures { λ r. ⌜ Became (dropped marker (usedCells self)) r ⌝ }
     {
         let used = self.used;
-        let at = row::first_of(&self.markers, used, marker);
+        let at = rows::first_of(&self.markers, used, marker);
         if at < used {
             let tail = used - 1;
             let mut i = at;
@@ -138,38 +128,40 @@ impl Forecast {
         ensures { λ r. ⌜ r ≡ weight (usedCells self) marker ⌝ }
     {
         let used = self.used;
-        let at = row::first_of(&self.markers, used, marker);
+        let at = rows::first_of(&self.markers, used, marker);
         if at < used {
-            return row::wide(self.counts[at]);
+            return rows::wide(self.counts[at]);
         }
         0
     }
 
-    // Every cell names its marker's actual segment, which a search finds.
-    pub fn retarget(mut self, list: &[u64]) -> Forecast
+    // Every cell of the `n` segments from `first` on names its marker's actual segment, by the bounds of segments; the others do as they are.
+    pub fn retarget(mut self, bounds: &[u64], first: usize, n: usize) -> Forecast
         requires { ⌜ Tidy self ⌝ }
-        requires { ⌜ (64 ≤ length (now list)) × (length (now list) ≤ 4096) ⌝ }
-        ensures { λ r. ⌜ (Tidy r) × ((ss : Segments) → Shows ss (now (list .entry)) → Live ss self → Became (retargeted (segmentOf ss) (usedCells self)) r) ⌝ }
+        requires { ⌜ (length (now bounds) ≡ 64) × (first + n ≤ 64) ⌝ }
+        ensures { λ r. ⌜ (Tidy r) × ((ss : Segments) → Listed ss → 0 < length ss → length ss ≤ 64 → Bounded 1 ss (now (bounds .entry)) → Live ss self → Elsewhere ss first n self → Became (retargeted (segmentOf ss) (usedCells self)) r) ⌝ }
     {
         let used = self.used;
         let mut i: usize = 0;
         while i < used {
-            let segment = segment_of(list, self.markers[i]);
-            self.segments[i] = segment as u8;
+            self.segments[i] = aim(self.segments[i], self.markers[i], bounds, first, n);
             i += 1;
         }
         self
     }
 }
 
-// The segment of a marker that is live; 0 for the front.
-fn segment_of(list: &[u64], marker: u64) -> usize
-    requires { ⌜ 64 ≤ length (now list) ⌝ }
-    ensures range { λ r. ⌜ 64 * r + 64 ≤ length (now (list .entry)) ⌝ }
-    ensures place { λ r. ⌜ ((ss : Segments) → Shows ss (now (list .entry)) → Marker ss marker → r ≡ segmentOf ss marker) ⌝ }
+// The segment of a cell that named `segment`: its marker's, by the bounds, where that was one of the `n` from `first` on; else the same.
+fn aim(segment: u8, marker: u64, bounds: &[u64], first: usize, n: usize) -> u8
+    requires { ⌜ (length (now bounds) ≡ 64) × (first + n ≤ 64) ⌝ }
+    ensures { λ r. ⌜ ((ss : Segments) → Listed ss → length ss ≤ 64 → Bounded 1 ss (now (bounds .entry)) → Marker ss marker → (Outside first n segment → segment ≡ segmentOf ss marker) → r ≡ segmentOf ss marker) ⌝ }
 {
-    if marker == 0 {
-        return 0;
+    let s = rows::wide(segment);
+    if s < first {
+        return segment;
     }
-    slots::finding::find_segment(list, marker)
+    if first + n <= s {
+        return segment;
+    }
+    seeking::finding::seat_of(bounds, marker) as u8
 }

@@ -12,8 +12,8 @@ use Rattle.forecast.specs.declared.Forecast.{Forecast}
 use Rattle.rules.specs.declared.Tally.{Tally}
 use Rattle.rules.specs.declared.Totals.{Totals}
 use Rattle.rules.specs.Calls as rules
-use Rattle.run.specs.declared.ToldRun.{ToldRun}
-use Rattle.run.specs.Admits.{RunTells}
+use Rattle.told.specs.declared.ToldRun.{ToldRun}
+use Rattle.told.specs.Tells.{RunTells}
 use Rattle.rules.specs.Checks as checks
 use Rattle.rules.specs.Rows.{Tells, bothRows, stopRows}
 use Rattle.rules.proofs.Refusals.Numbers as below

@@ -44,7 +44,7 @@ pub extern "C" fn ff_run(
     }
     let given = words::read_forecast(forecast);
     let before = words::totals::read_totals(totals);
-    let ran = run::running::run_told(list, given, requests, allowance, before);
+    let ran = told::run_told(list, given, requests, allowance, before);
     let done = ran.told;
     words::totals::write_totals(ran.totals, totals);
     write_reply(done.tally, reply);

@@ -2,30 +2,38 @@
 use mathlib.Core.Path.{_≡_, sym, ap, ap₂, _∙_, subst}
 use mathlib.Core.Bool.{Bool, true, false, not}
 use mathlib.Core.List.{List, [], _++_, List·Memᴰ as Mem}
-use Prim.Native.Nat.{ℕ, suc, _+_, _<_}
+use Prim.Native.Nat.{ℕ, suc, _+_, _*_, _/_, _^_, _≤_, _<_}
+use native.Mathlib.Nat.{pow-le-pow-right}
 use native.Mathlib.Numerals.{add-one}
 use native.Mathlib.Omega.{arith}
 use lib.Dec.{T, ltb}
 use lib.ListN.{length, take, drop, getD}
 use Rattle.slots.specs.declared.Place.{Place}
-use Rattle.slots.specs.Segments.{Segments, keys, segmentsOf}
+use Rattle.slots.specs.Segments.{Segments, keys, heightOf, segmentsOf}
 use Rattle.slots.specs.Keys.{Rising, Listed, member, above}
-use Rattle.slots.specs.Shown.{seat, Located}
+use Rattle.slots.specs.Shown.{Shows, seat, Located}
 use Rattle.slots.proofs.Rising.{above-parts}
 use Rattle.slots.proofs.Keys.{Between, member→mem, keys-parts, rising-part}
 use Rattle.slots.proofs.ByPlace.{place-old, drop-new, drop-old}
+use Rattle.slots.proofs.Tallies.{shown-within, shown-few}
 use Rattle.slots.proofs.Seats.{seat-between, seat-member}
 use Rattle.rules.specs.declared.Refusal.{Refusal}
+use Rattle.rules.specs.declared.Verdict.the-variants.{Accepted}
 use Rattle.rules.specs.Refusals.{refusalNumber}
 use Rattle.rules.specs.Checks.{checkList}
 use Rattle.rules.specs.Looking.{Scanned, scanned}
 use Rattle.rules.proofs.Refusals.Told.{refusal-some}
+use Rattle.rules.proofs.Requests.Checked.{Passed, passed}
 use Rattle.rules.proofs.Requests.Shown.{shows-passed}
 use Rattle.rules.proofs.Sets.SetLaws.{above-beyond}
 use Rattle.rules.proofs.Sets.SetScan.{scanned-more}
 use Rattle.list.specs.declared.ScanAnswer.{ScanAnswer}
+use Rattle.list.specs.Answers.{scanPaper}
 use Rattle.list.specs.Admits.{ScanAdmits}
-use Rattle.list.specs.Scans.{Wrote, keysFrom}
+use Rattle.checks.specs.declared.Listing.{Listing}
+use Rattle.checks.specs.Listings.{Counting}
+use Rattle.scans.specs.declared.Written.{Written}
+use Rattle.scans.specs.Scans.{Wrote, keysFrom}
 use Rattle.list.proofs.Replies.{scan-refused, scan-passed}
 
 -- WHERE THEY BEGIN
@@ -68,25 +76,44 @@ module _ (y : ℕ) (ss : Segments) (listed : Listed ss) (some : 0 < length ss) w
         let m : Mem y there = member→mem y there (rw (told-there, p) tt) in
         above-seat ∙ ap (λ (ks : List ℕ). ks ++ keys (drop (seat y ss + 1) ss)) (sym (drop-old y there rises m)) ∙ ap₂ {C = List ℕ} (λ s n. keysFrom s (n + 1) ss) (sym (l .segment)) (sym (l .at))
 
+    -- which is one of the keys there
     pub at-present : r .present ≡ true → r .at < r .held
     unfolding there
     at-present p =
         let m : Mem y there = member→mem y there (rw (told-there, p) tt) in
         omega (arith, place-old y there rises m, l .at, l .held)
 
--- WHAT A SCAN GIVES
-pub wrote-admits : (slots : List ℕ) (a : ℕ) (out ks : List ℕ) (r : ScanAnswer) (left : List ℕ) → checkList slots ≡ 0 → above a (keys (segmentsOf slots)) ≡ ks → Wrote ks out r left
-    → ScanAdmits slots a out r left
+-- BY THE COUNTS that the check has left: they are those of the segments, 64 at most, of 64 segments at most
+module _ (slots counts : List ℕ) (r : Listing) (c : Counting slots r counts) (e : checkList slots ≡ 0) (v : r .verdict ≡ Accepted) where
+  pub enough-counted : length slots / 64 ≤ length counts
+  enough-counted =
+      let p : Passed slots = passed slots e in
+      omega (arith, c .long, p .number, pow-le-pow-right {n = 2} (omega arith) {i = heightOf (length slots)} {j = 6} (p .to))
+
+  pub few-counted : (k : ℕ) → k < length slots / 64 → getD counts k 0 ≤ 64
+  few-counted k h =
+      let sh : Shows (segmentsOf slots) slots = shows-passed slots e in
+      let n : 64 * k + 64 ≤ length slots = omega arith in
+      omega (arith, c .each v k (shown-within (segmentsOf slots) slots sh k n), shown-few (segmentsOf slots) slots sh k n)
+
+-- WHAT A SCAN GIVES: an answer that tells what was written
+pub record Tells (d : Written) (r : ScanAnswer) : Type 0 where
+  pub number : scanPaper r .number ≡ 0
+  pub written : scanPaper r .written ≡ d .keys
+  pub more : scanPaper r .more ≡ d .more
+
+pub wrote-admits : (slots : List ℕ) (a : ℕ) (out ks : List ℕ) (d : Written) (r : ScanAnswer) (left : List ℕ) → checkList slots ≡ 0 → above a (keys (segmentsOf slots)) ≡ ks
+    → Wrote ks out d left → Tells d r → ScanAdmits slots a out r left
 unfolding scanned
-wrote-admits slots a out ks r left e q v =
+wrote-admits slots a out ks d r left e q v t =
     let p = scan-passed slots a out e in
     let ss : Segments = segmentsOf slots in
-    let w : Wrote (above a (keys ss)) out r left = subst (λ (l : List ℕ). Wrote l out r left) (sym q) v in
+    let w : Wrote (above a (keys ss)) out d left = subst (λ (l : List ℕ). Wrote l out d left) (sym q) v in
     record {
-      number = w .number ∙ sym (ap (λ (s : Scanned). s .number) p);
-      written = w .written ∙ sym (ap (λ (s : Scanned). s .written) p);
+      number = t .number ∙ sym (ap (λ (s : Scanned). s .number) p);
+      written = t .written ∙ w .written ∙ sym (ap (λ (s : Scanned). s .written) p);
       more =
-          w .more ∙ ap {B = Bool} (λ f. ltb (length (take (length out) f)) (length f)) (above-beyond a (keys ss)) ∙ sym (scanned-more a ss out (shows-passed slots e .listed .rising))
+          t .more ∙ w .more ∙ ap {B = Bool} (λ f. ltb (length (take (length out) f)) (length f)) (above-beyond a (keys ss)) ∙ sym (scanned-more a ss out (shows-passed slots e .listed .rising))
           ∙ sym (ap (λ (s : Scanned). s .more) p);
       output = w .output ∙ sym (ap (λ (s : Scanned). s .output) p);
     }

@@ -1,7 +1,5 @@
-pub mod OneStep
+pub mod ByVerdict
 pub mod Replies
-pub mod Pages
-pub mod Stretches
 pub mod KeysAbove
 pub mod Papers
 pub mod OneOutcome

@@ -3,12 +3,8 @@ use Prim.Native.Nat.{ℕ}
 use mathlib.Core.Path.{_≡_}
 use mathlib.Core.List.{List}
 use Rattle.forecast.specs.declared.Forecast.{Forecast}
-use Rattle.rules.specs.declared.Request.{Request}
-use Rattle.rules.specs.Refusals.{verdictNumber}
-use Rattle.rules.specs.Placing.{Answer}
 use Rattle.rules.specs.Checks.{check}
 use Rattle.rules.specs.Calls as rules
-use Rattle.steps.specs.declared.Step.{Step}
 use Rattle.list.specs.declared.MakeReply.{MakeReply}
 use Rattle.list.specs.declared.CheckAnswer.{CheckAnswer}
 use Rattle.list.specs.declared.LookupAnswer.{LookupAnswer}
@@ -34,15 +30,6 @@ pub record ScanAdmits (slots : List ℕ) (a : ℕ) (out : List ℕ) (r : ScanAns
   pub written : scanPaper r .written ≡ rules.scan slots a out .written
   pub more : scanPaper r .more ≡ rules.scan slots a out .more
   pub output : left ≡ rules.scan slots a out .output
-
--- insert and delete alike: what a step with any allowance comes to is the request's answer
-abbrev pub answerOf : Step → Answer
-answerOf r = record { number = verdictNumber (r .verdict); moves = r .moves; sparse = r .sparse }
-
-pub record Requested (q : Request) (slots : List ℕ) (F : Forecast) (r : Step) (left : List ℕ) : Type 0 where
-  pub answer : answerOf r ≡ rules.request q slots F .answer
-  pub forecast : r .forecast ≡ rules.request q slots F .forecast
-  pub slots-left : left ≡ rules.request q slots F .slots
 
 pub record InsertAdmits (slots : List ℕ) (F : Forecast) (y : ℕ) (r : InsertReply) (left : List ℕ) : Type 0 where
   pub answer : insertPaper (r .answer) ≡ rules.insert slots F y .answer

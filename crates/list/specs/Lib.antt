@@ -1,4 +1,3 @@
 pub mod Answers
 pub mod Admits
 pub mod Chains
-pub mod Scans

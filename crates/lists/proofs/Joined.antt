@@ -1,16 +1,20 @@
 -- Totals, joined lists, and lists dealt out by counts.
 use mathlib.Core.Path.{_≡_, refl, sym, ap, ap₂, _∙_}
 use mathlib.Core.List.{List, [], _∷_, _++_, map, append-assoc}
-use Prim.Native.Nat.{ℕ, suc, _+_}
+use Prim.Native.Nat.{ℕ, suc, _+_, _<_}
 use native.Mathlib.Nat.{zero-add, add-assoc}
 use native.Mathlib.Omega.{arith}
-use lib.ListN.{length, take, drop, length-append, length-drop, take-append-drop}
-use lib.Seq.{length-take-le}
+use lib.ListN.{length, getD, take, drop, length-append, length-drop, take-append-drop}
+use lib.Seq.{length-take-le, take-suc}
 use Rattle.lists.specs.Lists.{total, joined, deal}
 
 pub total-append : (xs ys : List ℕ) → total (xs ++ ys) ≡ total xs + total ys
 total-append [] ys = sym (zero-add (total ys))
 total-append (x ∷ xs) ys = ap (λ (n : ℕ). x + n) (total-append xs ys) ∙ sym (add-assoc x (total xs) (total ys))
+
+-- the total of the first counts
+pub total-suc : (cs : List ℕ) (s : ℕ) → s < length cs → total (take (suc s) cs) ≡ total (take s cs) + getD cs s 0
+total-suc cs s h = ap total (take-suc cs s 0 h) ∙ total-append (take s cs) (getD cs s 0 ∷ []) ∙ omega arith
 
 module _ {ℓ} {A : Type ℓ} where
   pub length-joined : (xss : List (List A)) → length (joined xss) ≡ total (map length xss)

@@ -9,3 +9,4 @@ pub mod Fill
 pub mod Parts
 pub mod Searched
 pub mod Overwritten
+pub mod Inserted

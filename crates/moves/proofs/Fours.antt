@@ -1,5 +1,5 @@
 -- Slots copied four at a time, the four at the far end, which may overlap those before, read first and written last: laws of a copy of k slots.
-use mathlib.Core.Path.{_≡_, refl, sym, ap, _∙_}
+use mathlib.Core.Path.{_≡_, refl, sym, ap, ap₂, _∙_}
 use Prim.Native.Nat.{ℕ, suc, _+_, _-_, _≤_, _<_}
 use native.Mathlib.Nat.{add-zero}
 use native.Mathlib.Omega.{arith}
@@ -9,7 +9,7 @@ use lib.Seq.{paste, sets-eq, length-paste-head, drop-cons, length-take-le, take-
 use Rattle.moves.specs.Moves.{moved}
 use Rattle.moves.proofs.Moving.{Right, right-all}
 use Rattle.moves.proofs.Gaps.{take-drop}
-use Rattle.moves.proofs.Packing.{drop-past, part-alike}
+use Rattle.moves.proofs.Fronts.{drop-past, part-alike}
 
 module _ {A : Type 0} where
   -- FOUR SLOTS, read and written
@@ -32,37 +32,44 @@ module _ {A : Type 0} where
       let e₃ : to + 3 ≡ suc (suc (suc to)) = omega arith in
       rw (e₁, e₂, e₃) (sets-eq (w ∷ x ∷ y ∷ z ∷ []) l to h)
 
-  -- TO THE LEFT: i slots are copied, and then the k from e on, read from the list as it was
-  take-moved : (l : List A) (from to e i : ℕ) → to ≤ from → from + i ≤ length l → e ≤ i → take (to + e) (moved from to i l) ≡ take to l ++ take e (drop from l)
-  take-moved l from to e i h k j =
-      let d : List A = drop from l in
+  -- FROM s: i slots of s from a on are copied to to, and then the k from e on
+  take-laid : (l d : List A) (to e i : ℕ) → to + i ≤ length l → i ≤ length d → e ≤ i → take (to + e) (paste l to d i) ≡ take to l ++ take e d
+  take-laid l d to e i h k j =
       let lt : length (take to l) ≡ to = length-take-le to l (omega arith) in
-      let lp : length (take to l ++ take i d) ≡ to + i = length-paste-head l to d i (omega arith) (simp length-drop (omega arith)) in
+      let lp : length (take to l ++ take i d) ≡ to + i = length-paste-head l to d i (omega arith) k in
       take-append-le (to + e) (take to l ++ take i d) (drop (to + i) l) (omega arith)
       ∙ ap (λ (n : ℕ). take (n + e) (take to l ++ take i d)) (sym lt)
       ∙ take-append-add (take to l) (take i d) e
       ∙ ap (λ (t : List A). take to l ++ t) (take-take e i d j)
 
-  pub left-lay : (l : List A) (from to e k i : ℕ) → to ≤ from → from + (e + k) ≤ length l → e ≤ i → i ≤ e + k
-      → paste (moved from to i l) (to + e) (drop (from + e) l) k ≡ moved from to (e + k) l
-  left-lay l from to e k i h q j m =
-      let d : List A = drop from l in
-      let M : List A = moved from to i l in
-      let lp : length (take to l ++ take i d) ≡ to + i = length-paste-head l to d i (omega arith) (simp length-drop (omega arith)) in
+  pub lay-on : (l s : List A) (a to e k i : ℕ) → to + (e + k) ≤ length l → a + (e + k) ≤ length s → e ≤ i → i ≤ e + k
+      → paste (paste l to (drop a s) i) (to + e) (drop (a + e) s) k ≡ paste l to (drop a s) (e + k)
+  lay-on l s a to e k i h q j m =
+      let d : List A = drop a s in
+      let M : List A = paste l to d i in
+      let ld : i ≤ length d = simp length-drop (omega arith) in
+      let lp : length (take to l ++ take i d) ≡ to + i = length-paste-head l to d i (omega arith) ld in
       let e₁ : to + e + k ≡ to + (e + k) = omega arith in
-      ap (λ (t : List A). t ++ take k (drop (from + e) l) ++ drop (to + e + k) M) (take-moved l from to e i h (omega arith) j)
-      ∙ ap (λ (t : List A). take to l ++ take e d ++ take k t ++ drop (to + e + k) M) (sym (drop-drop e from l))
+      ap (λ (t : List A). t ++ take k (drop (a + e) s) ++ drop (to + e + k) M) (take-laid l d to e i (omega arith) ld j)
+      ∙ ap (λ (t : List A). take to l ++ take e d ++ take k t ++ drop (to + e + k) M) (sym (drop-drop e a s))
       ∙ ap (λ (t : List A). take to l ++ take e d ++ take k (drop e d) ++ t) (drop-past (take to l ++ take i d) l (to + i) (to + e + k) lp (omega arith))
       ∙ ap (λ (t : List A). t ++ drop (to + e + k) l) (append-assoc (take to l) (take e d) (take k (drop e d)) ∙ ap (λ (t : List A). take to l ++ t) (sym (take-add e k d)))
       ∙ ap (λ (n : ℕ). take to l ++ take (e + k) d ++ drop n l) e₁
 
+  -- the same, of what was read and what it was laid over
+  pub laid-on : (l s read over new : List A) (a to e k i : ℕ) → to + (e + k) ≤ length l → a + (e + k) ≤ length s → e ≤ i → i ≤ e + k
+      → take k (drop (a + e) s) ≡ read → over ≡ paste l to (drop a s) i → new ≡ take (to + e) over ++ read ++ drop (to + e + k) over → new ≡ paste l to (drop a s) (e + k)
+  laid-on l s read over new a to e k i h q j m r o n =
+      n ∙ ap₂ {C = List A} (λ (p vs : List A). take (to + e) p ++ vs ++ drop (to + e + k) p) o (sym r) ∙ lay-on l s a to e k i h q j m
+
+  -- TO THE LEFT: the same from the list itself, as the movement of i slots has left it
   pub left-on : (l : List A) (from to i k : ℕ) → to ≤ from → from + (i + k) ≤ length l → moved (from + i) (to + i) k (moved from to i l) ≡ moved from to (i + k) l
   left-on l from to i k h q =
       let d : List A = drop from l in
       let M : List A = moved from to i l in
       let lp : length (take to l ++ take i d) ≡ to + i = length-paste-head l to d i (omega arith) (simp length-drop (omega arith)) in
       ap (λ (t : List A). paste M (to + i) t k) (drop-past (take to l ++ take i d) l (to + i) (from + i) lp (omega arith))
-      ∙ left-lay l from to i k i h q (omega arith) (omega arith)
+      ∙ lay-on l l from to i k i (omega arith) q (omega arith) (omega arith)
 
   -- TO THE RIGHT: the first i of c slots are left to copy, and then the k from j on are copied, read from the list as it was
   drop-right : (l : List A) (from to c i n : ℕ) → from ≤ to → to + c ≤ length l → i ≤ n → n ≤ c

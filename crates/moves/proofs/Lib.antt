@@ -1,5 +1,4 @@
 pub mod Moving
+pub mod Fronts
 pub mod Gaps
-pub mod Packing
 pub mod Fours
-pub mod Spreading

@@ -1,12 +1,11 @@
 // Movement of slots, by positions and counts alone.
 ghost use mathlib.Core.Path.{_≡_};
-ghost use Prim.Native.Nat.{ℕ, _+_, _*_, _-_, _≤_, _<_};
-ghost use lib.ListN.{length, getD, take};
-ghost use Rattle.lists.specs.Lists.{total, deal};
-ghost use Rattle.moves.specs.Layout.{render};
-ghost use Rattle.moves.specs.Moves.{moved, cleared, opened, closed, Packed};
+ghost use Prim.Native.Nat.{_+_, _≤_, _<_};
+ghost use lib.ListN.{length};
+ghost use Rattle.moves.specs.Moves.{moved, cleared, opened, closed};
 
 mod by_four;
+pub mod copying;
 
 // As move_left, one slot at a time.
 fn few_left(part: &mut [u64], from: usize, to: usize, count: usize)
@@ -99,40 +98,4 @@ pub fn close_gap(part: &mut [u64], n: usize, at: usize)
 {
     move_left(part, at + 1, at, n - at - 1);
     part[n - 1] = 0;
-}
-
-// The keys of all segments moved to the front of the window, in place; the answer is how many.
-pub fn pack(window: &mut [u64], counts: &[usize]) -> usize
-    requires { ⌜ length (now window) ≡ 64 * length (now counts) ⌝ }
-    requires { ⌜ ((k : ℕ) → getD (now counts) k 0 ≤ 64) ⌝ }
-    ensures { λ r. ⌜ Packed (now (counts .entry)) (now (window .entry)) r (now (window .exit)) ⌝ }
-{
-    let mut at = 0;
-    let mut s = 0;
-    while s < counts.len() {
-        let c = counts[s];
-        move_left(window, 64 * s, at, c);
-        at += c;
-        s += 1;
-    }
-    at
-}
-
-// The first `m` slots dealt out to segments of so many keys each, in place.
-pub fn spread(window: &mut [u64], counts: &[usize], m: usize)
-    requires { ⌜ length (now window) ≡ 64 * length (now counts) ⌝ }
-    requires { ⌜ ((k : ℕ) → getD (now counts) k 0 ≤ 64) ⌝ }
-    requires { ⌜ total (now counts) ≡ m ⌝ }
-    ensures { λ _. ⌜ now (window .exit) ≡ render 0 (deal (now (counts .entry)) (take m (now (window .entry)))) ⌝ }
-{
-    let mut at = m;
-    let mut s = counts.len();
-    while 0 < s {
-        s -= 1;
-        let c = counts[s];
-        let to = 64 * s;
-        at -= c;
-        move_right(window, at, to, c);
-        clear(window, to + c, to + 64);
-    }
 }

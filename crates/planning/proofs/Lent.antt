@@ -29,3 +29,8 @@ pub set-only : (xs : List ℕ) (v : ℕ) → length xs ≡ 1 → set xs 0 v ≡ 
 set-only [] v h = absurd (omega arith)
 set-only (x ∷ []) v h = refl
 set-only (x ∷ y ∷ xs) v h = absurd (omega arith)
+
+-- both slots are
+pub set-both : (xs : List ℕ) (v w : ℕ) → length xs ≡ 2 → set (set xs 0 v) 1 w ≡ v ∷ w ∷ []
+set-both [] v w h = absurd (omega arith)
+set-both (x ∷ xs) v w h = ap (λ (l : List ℕ). v ∷ l) (set-only xs w (omega arith))

@@ -13,9 +13,9 @@ use Rattle.rules.specs.SharingOut.{leftShare, plan}
 use Rattle.rules.specs.Readings.{Limits}
 use Rattle.rules.proofs.Sharing.SharingOut.{inner}
 use Rattle.planning.specs.Plans.{Splits, Planned}
-use Rattle.planning.proofs.Weighing.{first-part, other-part, length-stretch}
+use Rattle.stretches.proofs.Weighing.{first-part, other-part, length-stretch}
 use Rattle.planning.proofs.Ranges.{Ranged}
-use Rattle.planning.proofs.Lent.{halves, set-only}
+use Rattle.planning.proofs.Lent.{halves, set-only, set-both}
 
 -- WITHIN LIMITS
 -- What is known of a window of level l above segments, with half the segments in each half.
@@ -75,6 +75,17 @@ module _ (S : Shares) (f l a m : ℕ) (ws : List ℕ) (long : a + m ≤ length w
   plan-one counts e h =
       set-only counts m (h ∙ ap (λ (k : ℕ). 2 ^ k) e) ∙ ap (λ (k : ℕ). k ∷ []) (sym (length-stretch ws a m long))
       ∙ sym (plan-zero S f l (take m (drop a ws)) e)
+
+  -- two segments take a half each
+  pub plan-pair : (counts : List ℕ) (i : ℕ) → l ≡ 1 → length counts ≡ 2 ^ l → i ≤ m → i ≡ leftShare S (l - 1) f (take m (drop a ws))
+      → set (set counts 0 i) 1 (m - i) ≡ plan S l f (take m (drop a ws))
+  plan-pair counts i e h q p =
+      let z : l - 1 ≡ 0 = omega arith in
+      let u : length (take i (take m (drop a ws))) ≡ i = ap length (first-part ws a m i q) ∙ length-stretch ws a i (omega arith) in
+      let v : length (drop i (take m (drop a ws))) ≡ m - i = ap length (other-part ws a m i q) ∙ length-stretch ws (a + i) (m - i) (omega arith) in
+      set-both counts i (m - i) (h ∙ ap (λ (k : ℕ). 2 ^ k) e) ∙ ap₂ (λ (j k : ℕ). j ∷ k ∷ []) (sym u) (sym v)
+      ∙ sym (plan-up S f l (take m (drop a ws)) i (omega arith) p
+      ∙ ap₂ (λ (x y : List ℕ). x ++ y) (plan-zero S f (l - 1) (take i (take m (drop a ws))) z) (plan-zero S 0 (l - 1) (drop i (take m (drop a ws))) z))
 
   -- the plans of the halves
   pub plan-two : (counts xs ys : List ℕ) (half i : ℕ) → 1 ≤ l → i ≤ m → i ≡ leftShare S (l - 1) f (take m (drop a ws)) → length xs ≡ half

@@ -1,7 +1,3 @@
-pub mod NextMark
-pub mod Weighing
-pub mod Valley
-pub mod Looks
 pub mod Parts
 pub mod Scanning
 pub mod Ranges

@@ -11,7 +11,7 @@ use Rattle.rules.specs.Shares.{Shares}
 use Rattle.rules.specs.SharingOut.{formula6, least, leftShare}
 use Rattle.rules.proofs.Sharing.Splits.{share-even, share-least}
 use Rattle.planning.specs.Plans.{Splits}
-use Rattle.planning.specs.Tries.{Halves}
+use Rattle.stretches.specs.Tries.{Halves}
 
 module _ (half low high m : ℕ) where
   -- the numbers tried

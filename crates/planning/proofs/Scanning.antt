@@ -8,15 +8,15 @@ use native.Mathlib.Omega.{arith}
 use lib.ListN.{length, take, drop, getD}
 use Rattle.lists.specs.Lists.{total}
 use Rattle.rules.specs.SharingOut.{Fraction, distance, formula6, least}
-use Rattle.planning.specs.declared.Part.{Part}
-use Rattle.planning.specs.declared.Passed.{Passed}
-use Rattle.planning.specs.declared.Stretch.{Stretch}
-use Rattle.planning.specs.declared.Tried.{Tried}
-use Rattle.planning.specs.Parts.{weightsIn, PartOf, PassedTo, reachOf}
-use Rattle.planning.specs.Tries.{Halves, Weighted, nearestOf}
-use Rattle.planning.proofs.Looks.{none, bestOf, best-is, stretch-is}
-use Rattle.planning.proofs.Weighing.{total-two}
-use Rattle.planning.proofs.Parts.{length-in, all-small, left-small, reach-from, reach-to, flat, mark-there, passed-on}
+use Rattle.stretches.specs.declared.Part.{Part}
+use Rattle.stretches.specs.declared.Passed.{Passed}
+use Rattle.stretches.specs.declared.Stretch.{Stretch}
+use Rattle.stretches.specs.declared.Tried.{Tried}
+use Rattle.stretches.specs.Parts.{weightsIn, PartOf, PassedTo, reachOf}
+use Rattle.stretches.specs.Tries.{Halves, Weighted, nearestOf}
+use Rattle.stretches.proofs.Looks.{none, bestOf, best-is, stretch-is}
+use Rattle.stretches.proofs.Weighing.{total-two}
+use Rattle.stretches.proofs.Parts.{length-in, all-small, left-small, reach-from, reach-to, flat, mark-there, passed-on}
 
 -- what is left of all is right
 six-is : (c front : ℕ) (vs : List ℕ) (left all j m : ℕ) → length vs ≡ m → left ≡ front + total (take j vs) → all ≡ front + total vs

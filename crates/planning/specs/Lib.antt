@@ -1,4 +1,2 @@
-pub mod Marks
 pub mod Plans
-pub mod Tries
 pub mod Parts

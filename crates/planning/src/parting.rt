@@ -4,8 +4,8 @@ ghost use Prim.Native.Nat.{_+_, _≤_};
 ghost use lib.ListN.{length};
 ghost use Rattle.lists.specs.Lists.{All};
 ghost use Rattle.planning.specs.Parts.{wholeOf, leftOf, rightOf};
-use crate::Part;
-use crate::Passed;
+use stretches::Part;
+use stretches::Passed;
 
 // All `m` keys of a window, with all its marks.
 pub fn whole(weights: &[usize], m: usize, front: usize) -> Part

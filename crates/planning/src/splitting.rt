@@ -5,18 +5,17 @@ ghost use mathlib.Core.List.{List};
 ghost use lib.ListN.{length};
 ghost use Rattle.rules.specs.Shares.{Shares};
 ghost use Rattle.rules.specs.SharingOut.{formula6, least, leftShare, plan};
-ghost use Rattle.planning.specs.Parts.{PartOf, weightsIn};
 ghost use Rattle.shares.specs.Rows.{Rows};
+ghost use Rattle.stretches.specs.Parts.{PartOf, weightsIn};
+ghost use Rattle.stretches.specs.Tries.{Halves};
 ghost use Rattle.planning.specs.Plans.{Splits, Planned};
-ghost use Rattle.planning.specs.Tries.{Halves};
-use crate::Part;
-use crate::Stretch;
-use crate::Tried;
-use crate::crossing;
 use crate::parting;
-use crate::passing;
-use crate::trying;
-use forecast::row;
+use stretches::Part;
+use stretches::Stretch;
+use stretches::Tried;
+use stretches::crossing;
+use stretches::passing;
+use stretches::trying;
 
 // Of the numbers from `first` to `last` the one that makes formula 6 least: stretches between marks, upward. A half has `c` slots.
 fn scan(at: &[usize], weights: &[usize], part: Part, c: usize, first: usize, last: usize) -> usize
@@ -76,6 +75,7 @@ pub fn split(
 }
 
 // How many of a part's keys each segment of its window, which is of this level, gets: into `counts`. The rows have a share for each level.
+// The two segments of a window of level 1 get theirs without further calls.
 pub fn plan_window(
     at: &[usize],
     weights: &[usize],
@@ -94,9 +94,14 @@ pub fn plan_window(
         counts[0] = part.keys;
     } else {
         let half = counts.len() / 2;
-        let low = row::wide(lows[level]);
-        let high = row::wide(highs[level]);
+        let low = rows::wide(lows[level]);
+        let high = rows::wide(highs[level]);
         let i = split(at, weights, part, half, low, high);
+        if level == 1 {
+            counts[0] = i;
+            counts[1] = part.keys - i;
+            return;
+        }
         let p = passing::pass(at, weights, part, i);
         plan_window(
             at,

@@ -1,9 +1,8 @@
-// Reading any slots: the height of their number, and the first slot that breaks the order.
+// Reading any slots: the first slot that breaks the order, and the number of keys.
 ghost use mathlib.Core.Path.{_≡_};
 ghost use Prim.Native.Nat.{_+_, _*_, _/_, _≤_, _<_};
 ghost use lib.ListN.{length};
 ghost use Rattle.slots.specs.Orders.{isKept};
-ghost use Rattle.slots.specs.Segments.{heightOf};
 ghost use Rattle.slots.specs.Shown.{Reads, Tallied};
 ghost use Rattle.reading.specs.Stretches.{Sound, before, breakOf};
 use slots::Order;
@@ -11,31 +10,6 @@ use slots::Reading;
 
 pub mod gaps;
 pub mod rising;
-
-// The height of a list of `n` slots, or 0 where they are no list.
-pub fn height_of(n: usize) -> usize
-    ensures { λ r. ⌜ (r ≡ heightOf n) × (r ≤ 6) ⌝ }
-{
-    if n == 128 {
-        return 1;
-    }
-    if n == 256 {
-        return 2;
-    }
-    if n == 512 {
-        return 3;
-    }
-    if n == 1024 {
-        return 4;
-    }
-    if n == 2048 {
-        return 5;
-    }
-    if n == 4096 {
-        return 6;
-    }
-    0
-}
 
 // The slot before slot `i`, or `last` at `a`.
 fn slot_before(list: &[u64], a: usize, i: usize, last: u64) -> u64

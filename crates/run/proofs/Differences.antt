@@ -13,7 +13,7 @@ use Rattle.rules.proofs.Running.Runs.{run-refused, run-checked}
 use Rattle.run.specs.declared.Run.{Run}
 use Rattle.run.specs.Sums.{since}
 use Rattle.run.specs.Admits.{RunAdmits}
-use Rattle.run.specs.Working.{whole}
+use Rattle.steps.specs.Works.{whole}
 use Rattle.run.specs.Differences.{Differs, RunDiffers}
 use Rattle.run.proofs.Readings.{cutTally, since-added, since-same}
 

@@ -1,6 +1,4 @@
 pub mod Readings
-pub mod StepInRun
-pub mod MidRun
 pub mod Admitted
 pub mod OneOutcome
 pub mod Differences

@@ -1,4 +1,4 @@
--- Any two outcomes of a run that its promise admits are equal, as verdicts and told in numbers.
+-- Any two outcomes of a run that its promise admits are equal.
 use mathlib.Core.Path.{_≡_, sym, _∙_}
 use mathlib.Core.List.{List}
 use Prim.Native.Nat.{ℕ}
@@ -6,8 +6,7 @@ use Rattle.forecast.specs.declared.Forecast.{Forecast}
 use Rattle.rules.specs.declared.Totals.{Totals}
 use Rattle.rules.proofs.Refusals.Told.{verdict-told}
 use Rattle.run.specs.declared.Run.{Run}
-use Rattle.run.specs.declared.ToldRun.{ToldRun}
-use Rattle.run.specs.Admits.{RunAdmits, RunTells}
+use Rattle.run.specs.Admits.{RunAdmits}
 
 module _ (slots : List ℕ) (F : Forecast) (bytes : List ℕ) (allowance : ℕ) (T : Totals) where
   pub run-one : (r r′ : Run) (left left′ : List ℕ)
@@ -18,20 +17,6 @@ module _ (slots : List ℕ) (F : Forecast) (bytes : List ℕ) (allowance : ℕ) 
         forecast = (a .forecast ∙ sym (b .forecast)) i;
         tally = (a .tally ∙ sym (b .tally)) i;
         stop = verdict-told (r .reply .stop) (r′ .reply .stop) (a .stop ∙ sym (b .stop)) i;
-      };
-      totals = (a .totals ∙ sym (b .totals)) i;
-    },
-    a .slots-left ∙ sym (b .slots-left),
-  )
-
-  pub told-one : (r r′ : ToldRun) (left left′ : List ℕ)
-      → RunTells slots F bytes allowance T r left → RunTells slots F bytes allowance T r′ left′ → (r ≡ r′) × (left ≡ left′)
-  told-one r r′ left left′ a b = (
-    λ i. record {
-      told = record {
-        forecast = (a .forecast ∙ sym (b .forecast)) i;
-        tally = (a .tally ∙ sym (b .tally)) i;
-        stop = (a .stop ∙ sym (b .stop)) i;
       };
       totals = (a .totals ∙ sym (b .totals)) i;
     },

@@ -32,6 +32,9 @@ since-added T n h =
     same-totals (growth-of-sum (T .worked) (n .worked) (h .worked)) (growth-of-sum (T .refused) (n .refused) (h .refused))
     (growth-of-sum (T .moved) (n .moves) (h .moved)) (growth-of-sum (T .sweeps) (n .sweeps) (h .sweeps))
 
--- and to nothing where nothing was added
+-- where nothing is counted nothing is added, and they subtract to nothing
+pub added-nothing : (T : Totals) → Reading T → added T nothing ≡ T
+added-nothing T h = same-totals (omega (arith, h .worked)) (omega (arith, h .refused)) (omega (arith, h .moved)) (omega (arith, h .sweeps))
+
 pub since-same : (T : Totals) → Reading T → since T T ≡ cutTally nothing
 since-same T h = same-totals (omega (arith, h .worked)) (omega (arith, h .refused)) (omega (arith, h .moved)) (omega (arith, h .sweeps))

@@ -1,4 +1,3 @@
 pub mod Sums
 pub mod Admits
-pub mod Working
 pub mod Differences

@@ -19,16 +19,3 @@ pub struct Run {
     pub reply: Reply,
     pub totals: Totals,
 }
-
-// The same in numbers, as C programs take it.
-#[repr(C)]
-pub struct Told {
-    pub forecast: Forecast,
-    pub tally: Tally,
-    pub stop: u64,
-}
-
-pub struct ToldRun {
-    pub told: Told,
-    pub totals: Totals,
-}

@@ -4,7 +4,7 @@ ghost use Prim.Native.Nat.{_≤_, _*_, _^_};
 ghost use lib.ListN.{getD};
 ghost use Rattle.rules.specs.Shares.{shares};
 ghost use Rattle.shares.specs.Rows.{Row, blankShape, Fetched};
-use forecast::row::wide;
+use rows::wide;
 
 const HIGH: [[u8; 7]; 6] = [
     [64, 32, 0, 0, 0, 0, 0],

@@ -14,6 +14,12 @@ use Rattle.slots.proofs.Orders.{Ordered, in-list}
 use Rattle.slots.proofs.Render.{length-render, slot-render, ordered-render}
 use Rattle.slots.proofs.Seats.{head, seat-is}
 
+-- a segment's first slot is its first key
+pub head-slot : (list : List ℕ) (ss : Segments) → Shows ss list → (k : ℕ) → slotAt list (64 * k) ≡ head ss k
+head-slot list ss sh k =
+    let e : 64 * k ≡ 64 * k + 0 = omega arith in
+    ap (λ (l : List ℕ). slotAt l (64 * k)) (sh .whole) ∙ ap (slotAt (render 0 ss)) e ∙ slot-render 0 ss (sh .fits) k 0 (omega arith)
+
 -- The segment best begins with a key up to key, or is the first; those after it and before a are empty; those from b on begin above key.
 pub record Narrowed (list : List ℕ) (key best a b : ℕ) : Type 0 where
   pub inside : 64 * best + 64 ≤ length list
@@ -84,22 +90,17 @@ narrow-end list key best a b n h ss sh = seat-is key ss (sh .listed) best low hi
     long : length list ≡ 64 * length ss
     long = ap length (sh .whole) ∙ length-render 0 ss (sh .fits)
 
-    first : (k : ℕ) → slotAt list (64 * k) ≡ head ss k
-    first k =
-        let e : 64 * k ≡ 64 * k + 0 = omega arith in
-        ap (λ (l : List ℕ). slotAt l (64 * k)) (sh .whole) ∙ ap (slotAt (render 0 ss)) e ∙ slot-render 0 ss (sh .fits) k 0 (omega arith)
-
     ordered : Ordered list
     ordered = subst Ordered (sym (sh .whole)) (ordered-render ss (sh .listed))
 
     low : (best ≡ 0) ⊎ ((head ss best ≢ 0) × (head ss best ≤ key))
-    low = rw (first best) at (n .low)
+    low = rw (head-slot list ss sh best) at (n .low)
 
     high : (k : ℕ) → best < k → head ss k ≢ 0 → key < head ss k
-    high k p z = rw (first k) at above
+    high k p z = rw (head-slot list ss sh k) at above
       where
         z′ : slotAt list (64 * k) ≢ 0
-        z′ = rw (first k) z
+        z′ = rw (head-slot list ss sh k) z
 
         above : key < slotAt list (64 * k)
         above =

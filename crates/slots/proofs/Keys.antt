@@ -101,19 +101,20 @@ pub rising-part : (ss : Segments) (s : ℕ) → s < length ss → Rising (keys s
 rising-part ss s h g =
     rising-left (getD ss s []) (keys (drop (suc s) ss)) (rising-right (keys (take s ss)) (getD ss s [] ++ keys (drop (suc s) ss)) (rw (keys-parts ss s h) at g))
 
--- what stands before and after the segment of a live key
-pub around : (ss : Segments) (x : ℕ) → Rising (keys ss) → 0 < x → Mem x (keys ss)
-    → All (λ k. k < x) (keys (take (segmentOf ss x) ss)) × All (λ k. x < k) (keys (drop (suc (segmentOf ss x)) ss))
-around ss x h p m = (λ k n. rising-across _ _ h′ k n x (in-left _ i), λ k n. rising-across _ _ (rising-right (keys (take s ss)) (getD ss s [] ++ keys (drop (suc s) ss)) h′) x i k n)
+-- every key before segment s is below y, and every key after it is above
+abbrev pub Between : ℕ → Segments → ℕ → Type 0
+Between y ss s = (s < length ss) × All (λ k. k < y) (keys (take s ss)) × All (λ k. y < k) (keys (drop (suc s) ss))
+
+-- so a key of a segment stands, and a live key in its segment
+pub key-between : (ss : Segments) (s x : ℕ) → Rising (keys ss) → s < length ss → Mem x (getD ss s []) → Between x ss s
+key-between ss s x r h i =
+    (h, λ k n. rising-across _ _ r′ k n x (in-left _ i), λ k n. rising-across _ _ (rising-right (keys (take s ss)) (getD ss s [] ++ keys (drop (suc s) ss)) r′) x i k n)
   where
-    s : ℕ
-    s = segmentOf ss x
+    r′ : Rising (keys (take s ss) ++ (getD ss s [] ++ keys (drop (suc s) ss)))
+    r′ = rw (keys-parts ss s h) at r
 
-    i : Mem x (getD ss s [])
-    i = segment-mem ss x p m .1
-
-    h′ : Rising (keys (take s ss) ++ (getD ss s [] ++ keys (drop (suc s) ss)))
-    h′ = rw (keys-parts ss s (segment-mem ss x p m .0)) at h
+pub live-between : (y : ℕ) (ss : Segments) → Listed ss → Mem y (keys ss) → Between y ss (segmentOf ss y)
+live-between y ss g m = let i = segment-mem ss y (g .live y m) m in key-between ss (segmentOf ss y) y (g .rising) (i .0) (i .1)
 
 -- a stretch of segments exchanged for one with the same keys
 pub keys-splice : (i n : ℕ) (new ss : Segments) → keys new ≡ keys (take n (drop i ss)) → keys (splice i n new ss) ≡ keys ss
@@ -124,29 +125,30 @@ keys-splice i n new ss e =
     ∙ ap keys (take-append-drop n (drop i ss)))
     ∙ sym (joined-append (take i ss) (drop i ss)) ∙ ap keys (take-append-drop i ss)
 
+-- the keys of its first segments, and of the others
+pub keys-take : (n : ℕ) (ss : Segments) (k : ℕ) → Mem k (keys (take n ss)) → Mem k (keys ss)
+keys-take n ss k m = subst (Mem k) (sym (joined-append (take n ss) (drop n ss)) ∙ ap keys (take-append-drop n ss)) (in-left (keys (drop n ss)) m)
+
 pub keys-drop : (n : ℕ) (ss : Segments) (k : ℕ) → Mem k (keys (drop n ss)) → Mem k (keys ss)
 keys-drop n ss k m = subst (Mem k) (sym (joined-append (take n ss) (drop n ss)) ∙ ap keys (take-append-drop n ss)) (in-right (keys (take n ss)) m)
 
 beyond : (k x y : ℕ) → (k < y → k ≤ x) → x < k → k ≢ y → y < k
 beyond k x y h p n = elim (decLt k y) [ yes q ↦ absurd (omega (arith, h q)) | no q ↦ omega arith ]
 
--- every key before a key's new segment is below it, and every key after is above it
-abbrev pub Between : ℕ → Segments → ℕ → Type 0
-Between y ss s = (s < length ss) × All (λ k. k < y) (keys (take s ss)) × All (λ k. y < k) (keys (drop (suc s) ss))
-
+-- and so a new key, after its predecessor
 pub home-between : (y : ℕ) (ss : Segments) → Listed ss → 0 < length ss → All (λ k. k ≢ y) (keys ss) → Between y ss (segmentOf ss (predecessor y ss))
 home-between y ss g h n = go (predecessor y ss) (pred-mem y ss) (pred-most y ss)
   where
     go : (x : ℕ) → (x ≡ 0) ⊎ ((x < y) × Mem x (keys ss)) → All (λ k. k < y → k ≤ x) (keys ss) → Between y ss (segmentOf ss x)
     go x (inl e) most = rw (ap (segmentOf ss) e ∙ segment-front ss) (h, (λ k m. absurd (nowhere m)), λ k m. beyond k x y (most k (keys-drop 1 ss k m)) (omega (arith, g .live k (keys-drop 1 ss k m))) (n k (keys-drop 1 ss k m)))
     go x (inr q) most = (
-      segment-mem ss x p (q .1) .0,
-      λ k m. lt-trans (around ss x (g .rising) p (q .1) .0 k m) (q .0),
-      λ k m. beyond k x y (most k (keys-drop (suc (segmentOf ss x)) ss k m)) (around ss x (g .rising) p (q .1) .1 k m) (n k (keys-drop (suc (segmentOf ss x)) ss k m)),
+      b .0,
+      λ k m. lt-trans (b .1 k m) (q .0),
+      λ k m. beyond k x y (most k (keys-drop (suc (segmentOf ss x)) ss k m)) (b .2 k m) (n k (keys-drop (suc (segmentOf ss x)) ss k m)),
     )
       where
-        p : 0 < x
-        p = g .live x (q .1)
+        b : Between x ss (segmentOf ss x)
+        b = live-between x ss g (q .1)
 
 -- the keys with y put in, or taken out, of one segment
 pub keys-put : (y : ℕ) (ss : Segments) (s : ℕ) → Between y ss s → keys (set ss s (put y (getD ss s []))) ≡ put y (keys ss)

@@ -2,13 +2,14 @@ pub mod Windows
 pub mod Counts
 pub mod Rising
 pub mod Keys
-pub mod Heights
+pub mod HeightLaws
 pub mod Orders
 pub mod Marks
 pub mod Live
 pub mod Padded
 pub mod Render
 pub mod Carried
+pub mod Within
 pub mod ByPlace
 pub mod Halving
 pub mod Seats

@@ -55,9 +55,9 @@ put-rising y xs h =
     rising-append (below y xs) (y ∷ above y xs) (only-rising (λ k. ltb k y) xs h) (λ k m. above-mem y xs k m .0, only-rising (λ k. ltb y k) xs h)
     (λ x m k n. elim (mem-cases n) [ inl e ↦ rw e (below-mem y xs x m .0) | inr n′ ↦ lt-trans (below-mem y xs x m .0) (above-mem y xs k n′ .0) ])
 
--- a key put in, or taken out, of the middle part only
+-- three parts, the first below y and the last above it: the keys below y are the first part, and those of the middle one
 module _ (y : ℕ) (A B C : List ℕ) (a : All (λ k. k < y) A) (c : All (λ k. y < k) C) where
-  below-parts : below y (A ++ (B ++ C)) ≡ A ++ below y B
+  pub below-parts : below y (A ++ (B ++ C)) ≡ A ++ below y B
   below-parts =
       only-append (λ k. ltb k y) A (B ++ C)
       ∙ ap₂ {C = List ℕ} _++_ (only-all (λ k. ltb k y) A (λ k m. lt→ltb k y (a k m)))
@@ -70,6 +70,7 @@ module _ (y : ℕ) (A B C : List ℕ) (a : All (λ k. k < y) A) (c : All (λ k. 
       ∙ ap₂ {C = List ℕ} _++_ (only-none (λ k. ltb y k) A (λ k m. le→nltb k y (le-of-lt (a k m))))
       (only-append (λ k. ltb y k) B C ∙ ap {B = List ℕ} (λ r. above y B ++ r) (only-all (λ k. ltb y k) C (λ k m. lt→ltb y k (c k m))))
 
+  -- a key put in, or taken out, of the middle part only
   pub put-parts : put y (A ++ (B ++ C)) ≡ A ++ (put y B ++ C)
   put-parts = ap₂ {C = List ℕ} (λ p q. p ++ (y ∷ q)) below-parts above-parts ∙ append-assoc A (below y B) (y ∷ (above y B ++ C)) ∙ ap {B = List ℕ} (λ r. A ++ r) (sym (append-assoc (below y B) (y ∷ above y B) C))
 

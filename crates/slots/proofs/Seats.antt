@@ -17,7 +17,7 @@ use Rattle.lists.proofs.Filtered.{only-length}
 use Rattle.slots.specs.Segments.{Segments, keys}
 use Rattle.slots.specs.Keys.{Rising, Listed, member, below, predecessor, segmentOf}
 use Rattle.slots.specs.Shown.{seat}
-use Rattle.slots.proofs.Keys.{Between, member→mem, mem→member, not-member, pred-mem, pred-most, segment-front, segment-mem, in-part, rising-part, around, home-between}
+use Rattle.slots.proofs.Keys.{Between, member→mem, mem→member, not-member, pred-mem, pred-most, segment-front, segment-mem, in-part, rising-part, live-between, home-between}
 use Rattle.slots.proofs.Halving.{rising-at, place-below, below-place, place-of}
 
 -- the first key of segment k; 0 where it is empty
@@ -97,7 +97,7 @@ module _ (y : ℕ) (ss : Segments) (listed : Listed ss) (r : ℕ) (low : (r ≡ 
       no-more (inr q) = elim (decLt s r) [
         | yes h ↦
             let f = first-live (q .0) in
-            absurd (omega (arith, around ss x (listed .rising) (listed .live x m) m .1 (head ss r) (later ss s r h (f .1) (head ss r) (f .0)), most (head ss r) (f .2) (q .1)))
+            absurd (omega (arith, live-between x ss listed m .2 (head ss r) (later ss s r h (f .1) (head ss r) (f .0)), most (head ss r) (f .2) (q .1)))
         | no h ↦ omega arith
       ]
 
@@ -125,14 +125,9 @@ module _ (y : ℕ) (ss : Segments) (listed : Listed ss) (r : ℕ) (low : (r ≡ 
 pub seat-between : (y : ℕ) (ss : Segments) → Listed ss → 0 < length ss → Between y ss (seat y ss)
 seat-between y ss listed h =
     elim (tested (member y (keys ss))) [
-      | inl t ↦ rw (seat-live y ss t) (live (member→mem y (keys ss) t))
+      | inl t ↦ rw (seat-live y ss t) (live-between y ss listed (member→mem y (keys ss) t))
       | inr t ↦ rw (seat-free y ss t) (home-between y ss listed h (not-member y (keys ss) t))
     ]
-  where
-    live : Mem y (keys ss) → Between y ss (segmentOf ss y)
-    live m =
-        let p = listed .live y m in
-        (segment-mem ss y p m .0, around ss y (listed .rising) p m .0, around ss y (listed .rising) p m .1)
 
 -- y is live where it is in that segment, and there only
 pub seat-member : (y : ℕ) (ss : Segments) → Listed ss → 0 < length ss → member y (getD ss (seat y ss) []) ≡ member y (keys ss)

@@ -4,15 +4,15 @@ use mathlib.Core.List.{List, [], _∷_, _++_, map, map-append, append-assoc}
 use Prim.Native.Nat.{ℕ, suc, _+_, _-_, _*_, _≤_, _<_}
 use native.Mathlib.Numerals.{add-one}
 use native.Mathlib.Omega.{arith}
-use lib.ListN.{length, take, drop, getD, set, take-append-drop, length-append, length-drop, length-map}
-use lib.Seq.{take-suc, getD-drop, drop-cons, set-at, length-take-le}
+use lib.ListN.{length, take, drop, getD, set, take-append-drop, length-append, length-drop, length-map, List·getD-map}
+use lib.Seq.{take-suc, getD-take, getD-drop, drop-cons, set-at, length-take-le, ext-getD}
 use Rattle.lists.specs.Lists.{All, total, splice, padded}
 use Rattle.lists.proofs.Members.{at-mem}
 use Rattle.lists.proofs.Fill.{length-padded}
-use Rattle.lists.proofs.Joined.{total-append}
+use Rattle.lists.proofs.Joined.{total-append, length-joined}
 use Rattle.slots.proofs.Carried.{segment-part}
-use Rattle.slots.specs.Segments.{Segments, pad}
-use Rattle.slots.specs.Shown.{Shows, Counted}
+use Rattle.slots.specs.Segments.{Segments, keys, pad}
+use Rattle.slots.specs.Shown.{Shows, CountsOf, Counted}
 use Rattle.slots.proofs.Keys.{in-part}
 use Rattle.slots.proofs.Render.{length-render}
 
@@ -83,3 +83,19 @@ counted-more ss first i r c counts counts′ w h k e = record { sum = sums; plac
         ∙ append-assoc (take first counts) old (c ∷ rest)
         ∙ ap {B = List ℕ} (λ l. take first counts ++ l) (sym (append-assoc old (c ∷ []) rest))
         ∙ ap₂ {C = List ℕ} (λ (l : List ℕ) (t : ℕ). take first counts ++ (l ++ drop t counts)) (sym new) n
+
+-- A TABLE that has each count in its place: the counts of a stretch, and their sum
+module _ (ss : Segments) (counts : List ℕ) (each : CountsOf ss counts) (f n : ℕ) (h : f + n ≤ length ss) (l : f + n ≤ length counts) where
+  pub counts-within : take n (drop f counts) ≡ map length (take n (drop f ss))
+  counts-within =
+      ext-getD 0 (take n (drop f counts)) (map length (take n (drop f ss))) (long ∙ sym (length-map (take n (drop f ss)) length ∙ length-take-le n (drop f ss) (omega (arith, length-drop f ss))))
+      (λ i p.
+      let q : i < n = omega (arith, long) in
+      getD-take n (drop f counts) i 0 q ∙ getD-drop f counts i 0 ∙ each (f + i) (omega arith)
+      ∙ sym (List·getD-map length (take n (drop f ss)) i [] ∙ ap length (getD-take n (drop f ss) i [] q ∙ getD-drop f ss i [])))
+    where
+      long : length (take n (drop f counts)) ≡ n
+      long = length-take-le n (drop f counts) (omega (arith, length-drop f counts))
+
+  pub sum-within : total (take n (drop f counts)) ≡ length (keys (take n (drop f ss)))
+  sum-within = ap total counts-within ∙ sym (length-joined (take n (drop f ss)))

@@ -1,6 +1,6 @@
 -- Where a key stands among the keys, and the segment that it is in.
 use Prim.Native.Nat.{ℕ, _<_}
-use mathlib.Core.Bool.{Bool}
+use mathlib.Core.Bool.{Bool, true, false}
 use mathlib.Core.List.{List, [], _∷_, _++_}
 use lib.Dec.{ltb, eqb}
 use Rattle.lists.specs.Choice.{if_then_else_}
@@ -27,12 +27,16 @@ below y = only (λ k. ltb k y)
 abbrev pub above : ℕ → List ℕ → List ℕ
 above y = only (λ k. ltb y k)
 
--- A key put in its place among others, and taken out.
+-- A key put in its place among others, and taken out; either, as a flag says.
 abbrev pub put : ℕ → List ℕ → List ℕ
 put y ks = below y ks ++ (y ∷ above y ks)
 
 abbrev pub cut : ℕ → List ℕ → List ℕ
 cut y ks = below y ks ++ above y ks
+
+abbrev pub changed : Bool → ℕ → List ℕ → List ℕ
+changed true y ks = put y ks
+changed false y ks = cut y ks
 
 abbrev pub largest : List ℕ → ℕ
 largest [] = 0

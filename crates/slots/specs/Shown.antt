@@ -1,5 +1,5 @@
 -- What it is for slots to show segments, as the promises of searches and counts say it.
-use Prim.Native.Nat.{ℕ, _/_, _≤_}
+use Prim.Native.Nat.{ℕ, _/_, _≤_, _<_}
 use mathlib.Core.Path.{_≡_}
 use mathlib.Core.List.{List, [], _++_, map}
 use lib.Dec.{T}
@@ -28,6 +28,10 @@ pub record Located (y : ℕ) (ss : Segments) (r : Place) : Type 0 where
   pub held : r .held ≡ length (getD ss (seat y ss) [])
   pub at : r .at ≡ length (below y (getD ss (seat y ss) []))
   pub present : r .present ≡ member y (keys ss)
+
+-- Each segment has its number of keys in its place; the table may be longer.
+abbrev pub CountsOf : Segments → List ℕ → Type 0
+CountsOf ss counts = (k : ℕ) → k < length ss → getD counts k 0 ≡ length (getD ss k [])
 
 -- The counts of the n segments from first on, r keys in all, written to their places.
 pub record Counted (ss : Segments) (first n : ℕ) (counts : List ℕ) (r : ℕ) (counts′ : List ℕ) : Type 0 where

@@ -1,11 +1,9 @@
-// Counting keys: they stand first in their segment, so their number is found by halving.
+// Counting keys: those of one segment, which stand first in it, by halving; those of a stretch of segments by their counts.
 ghost use mathlib.Core.Path.{_≡_};
-ghost use Prim.Native.Nat.{ℕ, _+_, _*_, _≤_, _<_};
+ghost use Prim.Native.Nat.{ℕ, _-_, _*_, _≤_, _<_};
 ghost use mathlib.Core.List.{List};
-ghost use lib.ListN.{length};
-ghost use Rattle.lists.specs.Lists.{All, padded};
-ghost use Rattle.slots.specs.Segments.{Segments};
-ghost use Rattle.slots.specs.Shown.{Shows, Counted};
+ghost use lib.ListN.{length, take, drop, getD};
+ghost use Rattle.lists.specs.Lists.{All, total, padded};
 
 // How many keys a segment has.
 pub fn count_keys(segment: &[u64]) -> usize
@@ -25,21 +23,16 @@ pub fn count_keys(segment: &[u64]) -> usize
     lo
 }
 
-// How many keys the `n` segments from segment `first` on have, each into its place of `counts`; the answer is their sum.
-pub fn count_segments(list: &[u64], first: usize, n: usize, counts: &mut [usize]) -> usize
-    requires { ⌜ (64 * (first + n) ≤ length (now list)) × (first + n ≤ length (now counts)) ⌝ }
-    ensures range { λ r. ⌜ (r ≤ 64 * n) × (length (now (counts .exit)) ≡ length (now (counts .entry))) ⌝ }
-    ensures keys { λ r. ⌜ ((ss : Segments) → Shows ss (now (list .entry)) → Counted ss first n (now (counts .entry)) r (now (counts .exit))) ⌝ }
+// The keys of the segments from `first` up to `end`, by the counts of the segments.
+pub fn keys_in(counts: &[usize], first: usize, end: usize) -> usize
+    requires { ⌜ (first ≤ end) × (end - first ≤ 64) × (end ≤ length (now counts)) × ((k : ℕ) → k < end → getD (now counts) k 0 ≤ 64) ⌝ }
+    ensures range { λ r. ⌜ r ≤ 64 * (end - first) ⌝ }
+    ensures sum { λ r. ⌜ r ≡ total (take (end - first) (drop first (now (counts .entry)))) ⌝ }
 {
     let mut sum = 0;
-    let mut i = 0;
-    while i < n {
-        let s = first + i;
-        let a = 64 * s;
-        let e = a + 64;
-        let c = count_keys(&list[a..e]);
-        counts[s] = c;
-        sum += c;
+    let mut i = first;
+    while i < end {
+        sum += counts[i];
         i += 1;
     }
     sum

@@ -1,6 +1,7 @@
-// The list a classroom lends: counting and search of its slots, and what a reading of them finds.
+// The list a classroom lends: its height, counting and search of its slots, and what a reading of them finds.
 pub mod counting;
 pub mod finding;
+pub mod heights;
 
 // What a reading of the slots finds: the order is kept, or the first slot that breaks it, and how.
 pub enum Order {

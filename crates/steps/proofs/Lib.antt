@@ -1,11 +1,2 @@
-pub mod FromValid
-pub mod StepCases
-pub mod Places
-pub mod ShiftedIn
-pub mod ShiftedOut
-pub mod LentWindow
-pub mod Resown
-pub mod SweptIn
-pub mod SweptOut
-pub mod InsertSteps
-pub mod DeleteSteps
+pub mod TurnOf
+pub mod MidWork

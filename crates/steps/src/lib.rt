@@ -1,19 +1,16 @@
-// Steps on a list that has been checked: a key put in or taken out, with the sweep that it asks for.
-pub mod resowing;
-pub mod shifting;
-pub mod stepping;
+// Requests worked on a list that has been checked: what each comes to is decided first, then one function acts.
+pub mod working;
 
 use forecast::Forecast;
+use rules::Tally;
 use rules::Verdict;
 
-// What a step on a checked list comes to: done, or refused, also where its moves are over what is left of the allowance; with the forecast
-// then, the moves, whether a window was swept, whether the list is sparse, and the number of its keys then.
-// The forecast stands first, so that the compiler copies it less often.
-pub struct Step {
+// What records come to: the forecast then, what was counted, what stopped them, if anything did, what the last one worked came to, and the
+// number of keys then.
+pub struct Worked {
     pub forecast: Forecast,
-    pub verdict: Verdict,
-    pub moves: u64,
-    pub swept: bool,
-    pub sparse: bool,
+    pub tally: Tally,
+    pub stop: Verdict,
+    pub last: Verdict,
     pub keys: usize,
 }

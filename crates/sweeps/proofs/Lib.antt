@@ -1,2 +1,5 @@
-pub mod Dealing
-pub mod InWindow
+pub mod PlanFor
+pub mod SweptLevel
+pub mod SweptPlan
+pub mod SweptKept
+pub mod SweptLeft

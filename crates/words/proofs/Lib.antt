@@ -3,4 +3,3 @@ pub mod WordLaws
 pub mod Saturated
 pub mod ForecastLoops
 pub mod Called
-pub mod KeyBytes

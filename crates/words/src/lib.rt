@@ -1,10 +1,9 @@
-// What travels as numbers, words and bytes: refusals, a forecast, totals, request records.
+// What travels as numbers and words: refusals, a forecast, totals.
 ghost use mathlib.Core.Path.{_≡_};
 ghost use lib.ListN.{length};
 ghost use Rattle.words.specs.Words.{capped, forecastIn, forecastWords, saturated};
 
 pub mod numbers;
-pub mod records;
 pub mod totals;
 
 use forecast::Forecast;
@@ -28,7 +27,7 @@ fn narrow_used(x: u64) -> usize
     255
 }
 
-pub fn wide(x: u8) -> u64
+fn wide(x: u8) -> u64
     ensures { λ r. ⌜ r ≡ x ⌝ }
 {
     x as u64

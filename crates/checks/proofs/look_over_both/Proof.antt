@@ -6,7 +6,7 @@ use native.Mathlib.Omega.{arith}
 use borrow.Author.Needs.{needs}
 use borrow.Author.Tests.{not-true, not-false}
 use lib.ListN.{length}
-use Rattle.slots.specs.Segments.{heightOf, segmentsOf}
+use Rattle.slots.specs.Segments.{segmentsOf}
 use Rattle.forecast.specs.declared.Forecast.{Forecast}
 use Rattle.forecast.specs.Faults.{faultOf, isSound}
 use Rattle.rules.specs.Shares.{shares, cellsOf}
@@ -16,7 +16,9 @@ use Rattle.rules.proofs.Requests.Checked.{passed}
 use Rattle.rules.specs.declared.Verdict.the-variants.{Accepted}
 use Rattle.rules.specs.declared.Refusal.the-variants.{WrongForecast}
 use Rattle.rules.proofs.Requests.Shown.{shows-passed, long-passed}
-use Rattle.checks.proofs.Numbers.{list-first, wrong-forecast, both-sound, refused-some, looked-refused}
+use Rattle.checks.proofs.Numbers.{list-first, wrong-forecast, both-sound, refused-some, looked-refused, counting-refused}
+use Rattle.checks.specs.declared.Listing.{Listing}
+use Rattle.checks.specs.Listings.{ListLooked, Counting}
 use Rattle.checks.proofs.look_over_both.Statement.{statement}
 use Rattle.checks.proofs.look_over_both.Tie as tie
 
@@ -26,16 +28,21 @@ look-over-requires c κs = search needs
 enum-told : tie.Need-enum-told
 enum-told c = search needs
 
+same-length : tie.Need-same-length
+same-length c = search needs
+
 returns : tie.Need-returns
 returns c =
-    let L = c .before .before .look-over .ensures in
-    let told = c .enum-told .given .1 in
-    record {
-      number = L .number ∙ sym (list-first _ _ (λ e. refused-some _ _ told (L .number ∙ e)));
-      height = L .height;
-      shape = L .shape;
-      keys = L .keys;
-    }
+    let L = c .before .before .before .before .look-over .ensures in
+    let told = c .enum-told .given .1 in (
+      record {
+        number = L .0 .number ∙ sym (list-first _ _ (λ e. refused-some _ _ told (L .0 .number ∙ e)));
+        height = L .0 .height;
+        shape = L .0 .shape;
+        keys = L .0 .keys;
+      },
+      L .1,
+    )
 
 enum-told-2 : tie.Need-enum-told-2
 enum-told-2 c = search needs
@@ -43,16 +50,22 @@ enum-told-2 c = search needs
 -- the list alone passes
 module _ (c : tie.After-shape) where
   abbrev list : List ℕ
-  list = c .before .before .before .before .before .args .list .now
+  list = c .before .before .before .before .before .before .before .before .before .args .list .now
 
-  accepted : c .before .before .before .look-over .result .verdict ≡ Accepted
+  abbrev listing : Listing
+  listing = c .before .before .before .before .before .look-over .result
+
+  looked : ListLooked list listing
+  looked = c .before .before .before .before .before .look-over .ensures .0
+
+  counting : Counting list listing (c .before .before .before .before .before .look-over .last .1 .0)
+  counting = c .before .before .before .before .before .look-over .ensures .1
+
+  accepted : listing .verdict ≡ Accepted
   accepted = c .before .enum-told2 .given .1
 
   passes : checkList list ≡ 0
-  passes = sym (c .before .before .before .look-over .ensures .number) ∙ ap verdictNumber accepted
-
-  height : c .before .before .before .look-over .result .shape .height ≡ heightOf (length list)
-  height = c .before .before .before .look-over .ensures .height accepted
+  passes = sym (looked .number) ∙ ap verdictNumber accepted
 
 fault-of-requires : tie.Need-fault-of-requires
 fault-of-requires c κs = search needs
@@ -66,7 +79,7 @@ refuse-requires c κs = search needs
 -- the fault that is found is the rules'
 module _ (c : tie.After-fault-of) where
   abbrev told : Forecast
-  told = c .before .before .before .before .before .before .args .forecast
+  told = c .before .before .before .before .before .before .before .before .before .before .args .forecast
 
   fault-is : c .fault-of .result ≡ faultOf (cellsOf (sharesOf (list (c .before)))) (segmentsOf (list (c .before))) told
   fault-is =
@@ -74,28 +87,37 @@ module _ (c : tie.After-fault-of) where
       let slots : List ℕ = list a in
       let long : 64 ≤ length slots = omega (arith, long-passed slots (passes a)) in
       c .fault-of .ensures (segmentsOf slots) (shows-passed slots (passes a)) long
-      ∙ ap (λ (p : ℕ). faultOf p (segmentsOf slots) told) (a .before .before .before .look-over .ensures .shape (accepted a) .cells ∙ ap (λ (h : ℕ). cellsOf (shares h)) (height a))
+      ∙ ap (λ (p : ℕ). faultOf p (segmentsOf slots) told) (looked a .shape (accepted a) .cells ∙ ap (λ (h : ℕ). cellsOf (shares h)) (looked a .height (accepted a)))
+
+same-length-2 : tie.Need-same-length-2
+same-length-2 c = search needs
 
 returns-2 : tie.Need-returns-2
 returns-2 c =
     let f = c .before .before .before in
-    let a = f .before in
-    looked-refused _ _ WrongForecast _ (c .refuse .ensures)
-    (wrong-forecast (list a) (told f) (passes a) (sym (ap isSound (fault-is f)) ∙ sym (c .before .before .is-sound .ensures) ∙ not-true _ (c .before .if1 .taken)))
+    let a = f .before in (
+      looked-refused (list a) WrongForecast _ (c .refuse .ensures) _
+          (wrong-forecast (list a) (told f) (passes a) (sym (ap isSound (fault-is f)) ∙ sym (c .before .before .is-sound .ensures) ∙ not-true _ (c .before .if1 .taken))),
+      counting-refused (list a) WrongForecast _ (c .refuse .ensures) _ (counting a .long),
+    )
+
+same-length-3 : tie.Need-same-length-3
+same-length-3 c = search needs
 
 returns-3 : tie.Need-returns-3
 returns-3 c =
     let f = c .before .before in
-    let a = f .before in
-    let L = a .before .before .before .look-over .ensures in
-    record {
-      number =
-          ap verdictNumber (accepted a)
-          ∙ sym (both-sound (list a) (told f) (passes a) (sym (ap isSound (fault-is f)) ∙ sym (c .before .is-sound .ensures) ∙ not-false _ (c .if1 .left)));
-      height = L .height;
-      shape = L .shape;
-      keys = L .keys;
-    }
+    let a = f .before in (
+      record {
+        number =
+            ap verdictNumber (accepted a)
+            ∙ sym (both-sound (list a) (told f) (passes a) (sym (ap isSound (fault-is f)) ∙ sym (c .before .is-sound .ensures) ∙ not-false _ (c .if1 .left)));
+        height = looked a .height;
+        shape = looked a .shape;
+        keys = looked a .keys;
+      },
+      counting a,
+    )
 
 pub look-over-both-spec : {M : Type 1} → statement M
 look-over-both-spec =
@@ -103,10 +125,13 @@ look-over-both-spec =
     (tie.spec
     look-over-requires
     enum-told
+    same-length
     returns
     enum-told-2
     fault-of-requires
     is-sound-requires
     refuse-requires
+    same-length-2
     returns-2
+    same-length-3
     returns-3)

@@ -6,7 +6,7 @@ use mathlib.Core.List.{List, _++_}
 use lib.ListN.{length, take, drop}
 use Rattle.moves.specs.Moves.{moved}
 use Rattle.moves.proofs.Moving.{left-none}
-use Rattle.moves.proofs.Fours.{left-on, left-lay}
+use Rattle.moves.proofs.Fours.{left-on, lay-on}
 use Rattle.moves.proofs.move_left.Statement.{statement}
 use Rattle.moves.proofs.move_left.Tie as tie
 
@@ -80,7 +80,7 @@ returns-2 c =
     let q : e + 4 ≡ a .count = omega arith in
     c .before .before .put-four .ensures
     ∙ ap₂ {C = List ℕ} (λ (p vs : List ℕ). take (a .to + e) p ++ vs ++ drop (a .to + e + 4) p) (loop .inv .3) (sym (c .before .before .before .before .before .before .read-four .ensures))
-    ∙ left-lay l (a .from) (a .to) e 4 (loop .i) (omega arith) (omega arith) (omega arith) (omega arith)
+    ∙ lay-on l l (a .from) (a .to) e 4 (loop .i) (omega arith) (omega arith) (omega arith) (omega arith)
     ∙ ap (λ (n : ℕ). moved (a .from) (a .to) n l) q
 
 pub move-left-spec : {M : Type 1} → statement M

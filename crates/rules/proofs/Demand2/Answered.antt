@@ -10,7 +10,7 @@ use lib.ListN.{length}
 use Rattle.lists.specs.Choice.{if_then_else_}
 use Rattle.lists.proofs.Tests.{eq→eqb}
 use Rattle.slots.specs.Segments.{keys, live, heightOf, segmentsOf}
-use Rattle.slots.proofs.Heights.{height-is}
+use Rattle.slots.proofs.HeightLaws.{height-is}
 use Rattle.slots.proofs.Render.{live-render}
 use Rattle.rules.specs.declared.Request.{Request}
 use Rattle.rules.specs.declared.Request.the-variants.{Insert, Delete}

@@ -11,7 +11,7 @@ use lib.ListN.{length}
 use Rattle.slots.specs.Segments.{keys, heightOf, segmentsOf}
 use Rattle.slots.specs.Keys.{segmentOf}
 use Rattle.slots.specs.Orders.{slotAt}
-use Rattle.slots.proofs.Heights.{height-one}
+use Rattle.slots.proofs.HeightLaws.{height-one}
 use Rattle.slots.proofs.Live.{live-key}
 use Rattle.slots.proofs.Marks.{segment-at}
 use Rattle.slots.proofs.Keys.{segment-front}

@@ -11,7 +11,7 @@ use Rattle.lists.proofs.Tests.{double-not, neqb→ne}
 use Rattle.slots.specs.Segments.{keys, live, heightOf, segmentsOf}
 use Rattle.slots.specs.Keys.{member}
 use Rattle.slots.specs.Orders.{orderOf, isKept}
-use Rattle.slots.proofs.Heights.{height-cases}
+use Rattle.slots.proofs.HeightLaws.{height-cases}
 use Rattle.slots.proofs.Orders.{Ordered, Solid, broken, kept→}
 use Rattle.slots.proofs.Marks.{present}
 use Rattle.slots.proofs.Keys.{member→mem, mem→member}

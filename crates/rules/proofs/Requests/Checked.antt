@@ -13,7 +13,7 @@ use Rattle.lists.specs.Lists.{All}
 use Rattle.lists.proofs.Tests.{neqb→ne, is-true}
 use Rattle.slots.specs.Segments.{keys, live, heightOf, segmentsOf, render}
 use Rattle.slots.specs.Orders.{orderOf, isKept}
-use Rattle.slots.proofs.Heights.{height-is, height-cases}
+use Rattle.slots.proofs.HeightLaws.{height-is, height-cases}
 use Rattle.slots.proofs.Orders.{Ordered, Solid, kept→}
 use Rattle.slots.proofs.Render.{keys-segments, length-segments, sizes-segments, listed-segments, render-segments, length-render, live-render, segments-render, kept-render}
 use Rattle.forecast.specs.declared.Forecast.{Forecast}

@@ -8,7 +8,7 @@ use borrow.Author.Tests.{ne-eqb}
 use lib.ListN.{length, replicate, length-replicate}
 use Rattle.lists.specs.Lists.{All}
 use Rattle.slots.specs.Segments.{keys, live, heightOf, render}
-use Rattle.slots.proofs.Heights.{height-is}
+use Rattle.slots.proofs.HeightLaws.{height-is}
 use Rattle.slots.proofs.Render.{live-render, render-empty}
 use Rattle.forecast.specs.Cells.{forecastOf}
 use Rattle.rules.specs.Shares.{shares}

@@ -18,7 +18,7 @@ use Rattle.slots.specs.Keys.{Listed, member, above, put, cut, segmentOf}
 use Rattle.slots.proofs.Windows.{pow-pos}
 use Rattle.slots.proofs.Counts.{count-set-in, count-set-out, count-zero}
 use Rattle.slots.proofs.Rising.{length-put, length-cut, put-rising, cut-rising, put-mem, cut-mem}
-use Rattle.slots.proofs.Keys.{segment-mem, in-part, rising-part, not-member, member→mem, home-between, around, keys-put, keys-cut}
+use Rattle.slots.proofs.Keys.{segment-mem, in-part, rising-part, not-member, member→mem, home-between, live-between, keys-put, keys-cut}
 use Rattle.forecast.specs.declared.Cell.{Cell}
 use Rattle.rules.specs.declared.Request.{Request}
 use Rattle.rules.specs.declared.Request.the-variants.{Insert, Delete, Bad}
@@ -42,11 +42,7 @@ pub keys-delete : (S : Shares) (y : ℕ) (R : Room) → Listed (R .segments) →
 unfolding deleteKey
 keys-delete S y R g m =
     keys-settled S _ _ _ _ _ _
-    ∙ keys-cut y (R .segments) (segmentOf (R .segments) y)
-    (segment-mem (R .segments) y p m .0, around (R .segments) y (g .rising) p m .0, around (R .segments) y (g .rising) p m .1)
-  where
-    p : 0 < y
-    p = g .live y m
+    ∙ keys-cut y (R .segments) (segmentOf (R .segments) y) (live-between y (R .segments) g m)
 
 -- they rise, from 1 up
 listed-insert : (S : Shares) (y : ℕ) (R : Room) → Listed (R .segments) → 0 < length (R .segments) → 0 < y → T (not (member y (keys (R .segments))))

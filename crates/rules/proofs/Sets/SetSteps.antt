@@ -8,7 +8,7 @@ use lib.ListN.{length}
 use Rattle.lists.specs.Choice.{if_then_else_}
 use Rattle.slots.specs.Segments.{keys}
 use Rattle.slots.specs.Keys.{Listed, member, segmentOf}
-use Rattle.slots.proofs.Keys.{member→mem, segment-mem, around, keys-cut}
+use Rattle.slots.proofs.Keys.{member→mem, live-between, keys-cut}
 use Rattle.rules.specs.declared.Request.the-variants.{Insert, Delete}
 use Rattle.rules.specs.Shares.{Shares, capacity, sparseBelow}
 use Rattle.rules.specs.Placing.{Room, refusedBy, cutFrom, insertKey, deleteKey, outcome}
@@ -40,8 +40,7 @@ module _ (S : Shares) (y : ℕ) (R : Room) where
 
   keys-then : Listed (R .segments) → T (member y (keys (R .segments))) → keys (cutFrom y (R .segments)) ≡ set.remove y (keys (R .segments))
   keys-then g t =
-      keys-cut y (R .segments) (segmentOf (R .segments) y)
-      (segment-mem (R .segments) y (g .live y m) m .0, around (R .segments) y (g .rising) (g .live y m) m .0, around (R .segments) y (g .rising) (g .live y m) m .1)
+      keys-cut y (R .segments) (segmentOf (R .segments) y) (live-between y (R .segments) g m)
       ∙ cut-remove y (keys (R .segments)) (g .rising)
     where
       m : Mem y (keys (R .segments))

@@ -29,7 +29,7 @@ sub-tail c = omega arith
 
 loop-holds : tie.Need-loop-holds Inv-loop μ-loop
 loop-holds c =
-    let s = c .before .before .before .before .before in
+    let s = c .before .before .before .before in
     let b = begun (s .args .t1) (s .pre) _ (c .if1 .taken) in
     (omega arith, omega arith, b .0, b .1, b .2)
 
@@ -66,7 +66,7 @@ loop-less c = omega arith
 loop-again : tie.Need-loop-again Inv-loop μ-loop
 loop-again c =
     let m = c .before .before .before .before in
-    let s = m .before .before .before .before .before .before in
+    let s = m .before .before .before .before .before in
     let f = s .args .t1 in
     let i = m .loop .i in
     let at = m .before .before .first-of .result in
@@ -98,7 +98,7 @@ element-write-self-6 c = omega arith
 returns : tie.Need-returns Inv-loop μ-loop
 returns c =
     let m = c .before in
-    let s = m .before .before .before .before .before .before in
+    let s = m .before .before .before .before .before in
     let a = m .before .before .first-of in
     let i = m .loop .i in
     let inv = m .loop .inv in
@@ -107,7 +107,7 @@ returns c =
 
 returns-2 : tie.Need-returns-2 Inv-loop μ-loop
 returns-2 c =
-    let s = c .before .before .before .before .before in
+    let s = c .before .before .before .before in
     let a = c .before .first-of in
     kept (s .args .t1) (s .pre) (s .args .marker) (a .result) (a .ensures) (c .if1 .left)
 

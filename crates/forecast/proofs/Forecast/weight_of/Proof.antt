@@ -21,14 +21,14 @@ wide-requires c κs = search needs
 
 returns : tie.Need-returns
 returns c =
-    let s = c .before .before .before .before .before .before .before in
+    let s = c .before .before .before .before .before .before in
     let a = c .before .before .before .first-of in
     let f = s .args .t1 in
     c .wide .ensures ∙ count-is f (s .pre) (a .result) ∙ sym (weight-at (usedCells f) (s .args .marker) (a .result) (sym (a .ensures ∙ place-is f (s .pre) (s .args .marker))))
 
 returns-2 : tie.Need-returns-2
 returns-2 c =
-    let s = c .before .before .before .before .before in
+    let s = c .before .before .before .before in
     let a = c .before .first-of in
     let f = s .args .t1 in
     let h : length (usedCells f) ≤ cellAt (s .args .marker) (usedCells f) = omega (arith, cells-used f (s .pre), a .ensures ∙ place-is f (s .pre) (s .args .marker)) in

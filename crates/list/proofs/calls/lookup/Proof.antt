@@ -1,5 +1,5 @@
 -- `lookup` tells whether a key is live, and where, or why the list is refused.
-use mathlib.Core.Path.{_≡_, sym, ap, _∙_}
+use mathlib.Core.Path.{_≡_, refl, sym, ap, _∙_}
 use mathlib.Core.Bool.{true}
 use mathlib.Core.List.{List}
 use Prim.Native.Nat.{ℕ}
@@ -17,15 +17,18 @@ use Rattle.list.proofs.Replies.{lookup-refused, lookup-passed, looked-z
 use Rattle.list.proofs.calls.lookup.Statement.{statement}
 use Rattle.list.proofs.calls.lookup.Tie as tie
 
+slice-aggregate-look-over : tie.Need-slice-aggregate-look-over
+slice-aggregate-look-over c = search needs
+
 look-over-requires : tie.Need-look-over-requires
-look-over-requires c κs = search needs
+look-over-requires c κs = refl
 
 enum-known-verdict : tie.Need-enum-known-verdict
 enum-known-verdict c = search needs
 
 returns : tie.Need-returns
 returns c =
-    let z = c .before .before .before .look-over .ensures .number in
+    let z = c .before .before .before .before .look-over .ensures .0 .number in
     let v = c .before .verdict .given .1 in
     record { answer = sym (lookup-refused _ _ (λ e. refused-some _ _ v (z ∙ e)) ∙ ap notFound (sym z ∙ ap verdictNumber v)) }
 
@@ -35,13 +38,13 @@ enum-told c = search needs
 -- where the verdict accepts, the list passes
 module _ (c : tie.After-enum-told) where
   abbrev list : List ℕ
-  list = c .before .before .before .before .args .list .now
+  list = c .before .before .before .before .before .before .args .list .now
 
   abbrev key : ℕ
-  key = c .before .before .before .before .args .key
+  key = c .before .before .before .before .before .before .args .key
 
   passes : checkList list ≡ 0
-  passes = sym (c .before .before .look-over .ensures .number) ∙ ap verdictNumber (c .enum-told .given .1)
+  passes = sym (c .before .before .before .look-over .ensures .0 .number) ∙ ap verdictNumber (c .enum-told .given .1)
 
 returns-2 : tie.Need-returns-2
 returns-2 c =
@@ -75,6 +78,7 @@ pub lookup-spec : {M : Type 1} → statement M
 lookup-spec =
     tie.close
     (tie.spec
+    slice-aggregate-look-over
     look-over-requires
     enum-known-verdict
     returns

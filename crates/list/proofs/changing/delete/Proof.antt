@@ -1,6 +1,6 @@
 -- `delete` gives the answer that the request's verdict comes to, sparse or not.
 use mathlib.Core.Bool.{true, false}
-use Rattle.list.proofs.OneStep.{answer-refused, answer-done}
+use Rattle.list.proofs.ByVerdict.{answer-refused, answer-done}
 use borrow.Author.Needs.{needs}
 use Rattle.list.proofs.changing.delete.Statement.{statement}
 use Rattle.list.proofs.changing.delete.Tie as tie

@@ -2,7 +2,7 @@
 use mathlib.Core.Path.{ap, _∙_}
 use mathlib.Core.Bool.{false}
 use Rattle.rules.specs.Placing.{Answer}
-use Rattle.list.proofs.OneStep.{answer-refused, answer-done, insert-dense}
+use Rattle.list.proofs.ByVerdict.{answer-refused, answer-done, insert-dense}
 use borrow.Author.Needs.{needs}
 use Rattle.list.proofs.changing.insert.Statement.{statement}
 use Rattle.list.proofs.changing.insert.Tie as tie

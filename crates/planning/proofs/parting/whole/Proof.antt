@@ -8,8 +8,8 @@ use lib.ListN.{length, take}
 use lib.Seq.{take-all}
 use Rattle.lists.specs.Lists.{total}
 use Rattle.lists.proofs.Members.{at-mem}
-use Rattle.moves.proofs.Packing.{total-suc}
-use Rattle.planning.proofs.Weighing.{total-small}
+use Rattle.lists.proofs.Joined.{total-suc}
+use Rattle.stretches.proofs.Weighing.{total-small}
 use Rattle.planning.proofs.parting.whole.Statement.{statement}
 use Rattle.planning.proofs.parting.whole.Tie as tie
 

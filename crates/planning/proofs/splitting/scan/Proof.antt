@@ -5,10 +5,10 @@ use Prim.Native.Nat.{ℕ, _+_, _-_, _≤_}
 use native.Mathlib.Omega.{arith}
 use Rattle.rules.specs.SharingOut.{formula6, least}
 use Rattle.rules.proofs.Sharing.SharingOut.{least-from}
-use Rattle.planning.specs.Parts.{weightsIn, PartOf}
-use Rattle.planning.specs.Tries.{Modest}
-use Rattle.planning.proofs.Looks.{bestOf}
-use Rattle.planning.proofs.Parts.{next-inside}
+use Rattle.stretches.specs.Parts.{weightsIn, PartOf}
+use Rattle.stretches.specs.Tries.{Modest}
+use Rattle.stretches.proofs.Looks.{bestOf}
+use Rattle.stretches.proofs.Parts.{next-inside}
 use Rattle.planning.proofs.Scanning.{Scanned, Stretched, scan-start, stretched, scan-ends}
 use Rattle.planning.proofs.splitting.scan.Statement.{statement}
 use Rattle.planning.proofs.splitting.scan.Tie as tie

@@ -3,8 +3,8 @@ use mathlib.Core.Path.{_≡_, sym, _∙_}
 use Prim.Native.Nat.{ℕ}
 use native.Mathlib.Nat.{pos-of-ne-zero}
 use native.Mathlib.Omega.{arith}
-use Rattle.planning.specs.Parts.{weightsIn}
-use Rattle.planning.proofs.Parts.{length-in}
+use Rattle.stretches.specs.Parts.{weightsIn}
+use Rattle.stretches.proofs.Parts.{length-in}
 use Rattle.planning.proofs.Ranges.{first, tops, tried, even-ranged, scan-ranged, even-is, scan-is}
 use borrow.Author.Needs.{needs}
 use Rattle.planning.proofs.splitting.split.Statement.{statement}

@@ -7,13 +7,14 @@ use lib.ListN.{length, getD, set, length-set, length-map}
 use Rattle.lists.specs.Lists.{padded}
 use Rattle.lists.proofs.Maps.{getD-map}
 use Rattle.lists.proofs.Members.{at-mem}
-use Rattle.lists.proofs.Overwritten.{written, written-more, written-done}
+use Rattle.lists.proofs.Overwritten.{written, written-more, written-ahead, written-done}
 use Rattle.slots.specs.Segments.{Segments}
+use Rattle.slots.specs.Keys.{segmentOf}
 use Rattle.forecast.specs.declared.Cell.{Cell}
 use Rattle.forecast.specs.declared.Forecast.{Forecast}
 use Rattle.forecast.specs.Cells.{cell, zeroCell, usedCells, row}
 use Rattle.forecast.specs.Steps.{aimed, retargeted}
-use Rattle.forecast.specs.Tidy.{Tidy, Became, Marker, Live}
+use Rattle.forecast.specs.Tidy.{Tidy, Became, Marker, Live, Outside, Elsewhere}
 use Rattle.forecast.proofs.Rows.{row-set, row-kept, row-at, row-long, row-drop}
 use Rattle.forecast.proofs.Stepping.{became, cells-used, markers-row, segments-row, counts-row, marker-is}
 
@@ -52,6 +53,13 @@ module _ (F : Forecast) (t : Tidy F) where
     new-few : length new ≤ 12
     new-few = omega (arith, new-long, cells-used F t, few)
 
+    -- those from i on are as they were
+    ahead-is : (i : ℕ) → i < F .used → (G : Forecast) → G .segments ≡ aiming place us i → getD (G .segments) i 0 ≡ getD us i zeroCell .segment
+    ahead-is i h G e =
+        ap (λ (l : List ℕ). getD l i 0) e
+        ∙ written-ahead (row (λ c. c .segment) new) (row (λ c. c .segment) us) i i 0 (omega arith) (omega (arith, row-long (λ c. c .segment) new new-few, few, cells-used F t))
+        ∙ row-at (λ c. c .segment) us refl i
+
     -- one more
     pub aim-more : (i : ℕ) → i < F .used → (G : Forecast) → G .markers ≡ F .markers → G .segments ≡ aiming place us i
         → (s : ℕ) → s ≡ place (getD (G .markers) i 0) → set (G .segments) i s ≡ aiming place us (i + 1)
@@ -73,3 +81,11 @@ module _ (F : Forecast) (t : Tidy F) where
         (e ∙ written-done (row (λ c. c .segment) new) (row (λ c. c .segment) us) i
         (row-drop (λ c. c .segment) new i (omega (arith, new-long)) ∙ sym (row-drop (λ c. c .segment) us i (omega (arith, cells-used F t)))))
         (n ∙ counts-row F t ∙ ap (padded 12 0) (sym (map-map (λ c. c .count) (aimed place) us)))
+
+  -- the segment at i is the marker's where it is none of these
+  pub unaimed : (ss : Segments) (first n : ℕ) → Elsewhere ss first n F → (i : ℕ) → i < F .used → (G : Forecast) → G .markers ≡ F .markers → G .segments ≡ aiming (segmentOf ss) us i
+      → Outside first n (getD (G .segments) i 0) → getD (G .segments) i 0 ≡ segmentOf ss (getD (G .markers) i 0)
+  unaimed ss first n el i h G m e o =
+      let a : getD (G .segments) i 0 ≡ getD us i zeroCell .segment = ahead-is (segmentOf ss) i h G e in
+      let b : getD (G .markers) i 0 ≡ getD us i zeroCell .marker = ap (λ (l : List ℕ). getD l i 0) m ∙ marker-is F t i in
+      a ∙ el _ (at-mem us i zeroCell (omega (arith, cells-used F t))) (subst (Outside first n) a o) ∙ ap (segmentOf ss) (sym b)

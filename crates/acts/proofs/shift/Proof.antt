@@ -1,0 +1,54 @@
+-- `shift` puts a key in or takes it out where its place is.
+use native.Mathlib.Omega.{arith}
+use borrow.Author.Needs.{needs}
+use Rattle.acts.proofs.Acted.{segment-in, numbers}
+use Rattle.acts.proofs.ActedShift.{room-in, under-out, shifted-in, shifted-out}
+use Rattle.acts.proofs.shift.Statement.{statement}
+use Rattle.acts.proofs.shift.Tie as tie
+
+put-in-requires : tie.Need-put-in-requires
+put-in-requires c κs =
+    let s = c .before .before .before .before .before .before .before in
+    let A = s .pre .0 .2 in
+    (numbers A .0, numbers A .1, numbers A .2, room-in A (c .before .before .if1 .taken) (s .pre .1))
+
+same-length : tie.Need-same-length
+same-length c = search needs
+
+same-length-2 : tie.Need-same-length-2
+same-length-2 c = search needs
+
+returns : tie.Need-returns
+returns c F shape A = shifted-in A (c .before .before .before .before .before .before .before .if1 .taken) (c .before .before .before .before .before .before .before .before .before .before .before .before .pre .1) (c .before .before .before .before .put-in .ensures)
+
+cut-out-requires : tie.Need-cut-out-requires
+cut-out-requires c κs =
+    let s = c .before .before .before .before .before .before .before .before in
+    let A = s .pre .0 .2 in
+    ((omega (arith, segment-in A, A .index .few), numbers A .1, under-out A (c .before .before .before .if1 .left), numbers A .3), (A .index .bound .long, numbers A .0))
+
+same-length-3 : tie.Need-same-length-3
+same-length-3 c = search needs
+
+same-length-4 : tie.Need-same-length-4
+same-length-4 c = search needs
+
+same-length-5 : tie.Need-same-length-5
+same-length-5 c = search needs
+
+returns-2 : tie.Need-returns-2
+returns-2 c F shape A = shifted-out A (c .before .before .before .before .before .before .before .before .before .before .if1 .left) (c .before .before .before .before .before .before .before .before .before .before .before .before .before .before .before .pre .1) (c .before .before .before .before .before .before .cut-out .ensures)
+
+pub shift-spec : {M : Type 1} → statement M
+shift-spec =
+    tie.close
+    (tie.spec
+    put-in-requires
+    same-length
+    same-length-2
+    returns
+    cut-out-requires
+    same-length-3
+    same-length-4
+    same-length-5
+    returns-2)

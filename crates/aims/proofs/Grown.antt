@@ -1,0 +1,73 @@
+-- The climb by counts, level by level: limits, the window that grows by its other half, and how it ends.
+use mathlib.Core.Path.{_≡_, refl, sym, ap, ap₂, _∙_}
+use mathlib.Core.Bool.{true, false, not}
+use mathlib.Core.Option.{Option, Option·getD}
+use mathlib.Core.List.{List}
+use Prim.Native.Nat.{ℕ, _+_, _-_, _*_, _^_, _≤_, _<_}
+use native.Mathlib.Numerals.{add-one}
+use native.Mathlib.Decide.{decLt}
+use native.Mathlib.Omega.{arith}
+use lib.Dec.{T, leb}
+use borrow.Author.Tests.{lt-leb, le-leb}
+use lib.ListN.{length, take, drop, set}
+use Rattle.lists.specs.Lists.{total}
+use Rattle.lists.proofs.Search.{first-is, first-none}
+use Rattle.slots.specs.Segments.{Segments, keys}
+use Rattle.slots.specs.Windows.{count}
+use Rattle.slots.specs.Shown.{CountsOf}
+use Rattle.slots.proofs.Tallies.{sum-within}
+use Rattle.rules.specs.Shares.{shares, within}
+use Rattle.rules.specs.Placing.{chosen}
+use Rattle.aims.specs.Climbs.{otherHalf, Climbed}
+use Rattle.aims.proofs.Halves.{count-halves, other-kept}
+
+-- LIMITS by the numbers of the table
+pub within-low : (h l size low n : ℕ) → size ≡ 2 ^ l → low ≡ shares h .low l → n < size * low → false ≡ within (shares h) l n
+within-low h l size low n e f k = rw (← e, ← f, lt-leb (size * low) n k) refl
+
+pub within-high : (h l size low high n : ℕ) → size ≡ 2 ^ l → low ≡ shares h .low l → high ≡ shares h .high l → size * low ≤ n → leb n (size * high) ≡ within (shares h) l n
+within-high h l size low high n e f g k = rw (← e, ← f, ← g, le-leb (size * low) n k) refl
+
+-- ONE LEVEL MORE: a window of `half` segments, the other half of which begins at o and has r keys by the counts
+pub keys-next : (l s half o : ℕ) (ss : Segments) (new ns : List ℕ) (n r : ℕ) → half ≡ 2 ^ l → o ≡ otherHalf half s → CountsOf ss ns
+    → o + half ≤ length ss → o + half ≤ length ns → r ≡ total (take (o + half - o) (drop o ns)) → n ≡ count l s (set ss s new) → n + r ≡ count (l + 1) s (set ss s new)
+keys-next l s half o ss new ns n r e f c enough room sum so-far =
+    rw add-one
+    (sym (count-halves l s (set ss s new)
+    ∙ ap₂ _+_ (sym so-far) (ap (λ (xs : Segments). length (keys xs)) (other-kept l s ss new) ∙ sym (sum ∙ ap (λ (k : ℕ). total (take k (drop o ns))) size ∙ sum-within ss ns c o half enough room ∙ same))))
+  where
+    size : o + half - o ≡ half
+    size = omega arith
+
+    same : length (keys (take half (drop o ss))) ≡ length (keys (take (2 ^ l) (drop (otherHalf (2 ^ l) s) ss)))
+    same = ap₂ (λ (m b : ℕ). length (keys (take m (drop b ss)))) e (f ∙ ap (λ (m : ℕ). otherHalf m s) e)
+
+-- NO WINDOW from level 1 to l is within limits
+abbrev pub Tried : ℕ → ℕ → Segments → ℕ → Type 0
+Tried h s ms l = (j : ℕ) → 1 ≤ j → j ≤ l → T (not (within (shares h) j (count j s ms)))
+
+-- none so far, and this one not either
+pub tried-more : (h s : ℕ) (ms : Segments) (l n : ℕ) → n ≡ count (l + 1) s ms → false ≡ within (shares h) (l + 1) n → Tried h s ms l → Tried h s ms (l + 1)
+tried-more h s ms l n e f t j p q = elim (decLt l j) [
+  | yes k ↦ let i : j ≡ l + 1 = omega arith in rw (i, ← e, ← f) tt
+  | no k ↦ t j p (omega arith)
+]
+
+-- THE END
+-- this one is the first within limits
+pub climbed-here : (h s : ℕ) (ms : Segments) (l n : ℕ) → l < h → n ≡ count (l + 1) s ms → true ≡ within (shares h) (l + 1) n → Tried h s ms l
+    → Climbed h s ms (record { level = l + 1; keys = n })
+unfolding chosen
+climbed-here h s ms l n k e t tried = record {
+  level = ap (λ (r : Option ℕ). Option·getD r 0)
+      (sym (first-is (λ j. within (shares h) j (count j s ms)) 1 h (l + 1) (omega arith, rw (← e, ← t) tt, λ j p q. tried j p (omega arith)) (omega arith)));
+  keys = λ _. e;
+}
+
+-- there is none
+pub climbed-none : (h s : ℕ) (ms : Segments) → Tried h s ms h → Climbed h s ms (record { level = 0; keys = 0 })
+unfolding chosen
+climbed-none h s ms tried = record {
+  level = ap (λ (r : Option ℕ). Option·getD r 0) (sym (first-none (λ j. within (shares h) j (count j s ms)) 1 h (λ j p q. tried j p (omega arith))));
+  keys = λ k. absurd (omega arith);
+}

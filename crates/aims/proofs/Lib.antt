@@ -1,0 +1,7 @@
+pub mod Halves
+pub mod Grown
+pub mod Standing
+pub mod Places
+pub mod Answers
+pub mod AimedIn
+pub mod AimedOut

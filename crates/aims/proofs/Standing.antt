@@ -1,0 +1,86 @@
+-- What is known of a list and forecast that pass the check: the rules' own statements of it, and the bounds that code needs.
+use mathlib.Core.Path.{_≡_, ap, _∙_, subst}
+use mathlib.Core.List.{List, []}
+use Prim.Native.Nat.{ℕ, _*_, _^_, _≤_, _<_}
+use native.Mathlib.Nat.{pow-le-pow-right}
+use native.Mathlib.Omega.{arith}
+use lib.ListN.{length, getD}
+use Rattle.lists.proofs.Members.{at-mem}
+use Rattle.lists.proofs.Filtered.{only-length}
+use Rattle.slots.specs.Segments.{isKey, keys, segmentsOf}
+use Rattle.slots.specs.Shown.{Shows}
+use Rattle.forecast.specs.declared.Forecast.{Forecast}
+use Rattle.forecast.specs.Cells.{usedCells}
+use Rattle.forecast.specs.Tidy.{Tidy, Roomy}
+use Rattle.forecast.proofs.Became.{is-became}
+use Rattle.rules.specs.Shares.{Lawful, shares}
+use Rattle.rules.specs.Checks.{checkList}
+use Rattle.rules.specs.Calls.{roomOf}
+use Rattle.rules.proofs.Sharing.Table.{lawful}
+use Rattle.rules.proofs.Requests.StaysGood.{Good}
+use Rattle.rules.proofs.Requests.Checked.{Passed, passed, list-passes, checked, keys-shown, forecast-shown}
+use Rattle.rules.proofs.Requests.Shown.{shows-passed, long-passed}
+use Rattle.shares.specs.declared.Shape.{Shape}
+use Rattle.shares.specs.Rows.{Fetched}
+use Rattle.aims.specs.Aims.{Known, Stands}
+
+module _ {slots : List ℕ} {F : Forecast} {k : Shape} {n : ℕ} (s : Stands slots F k n) where
+  list-stands : checkList slots ≡ 0
+  list-stands = list-passes slots F (s .passes)
+
+  passed-stands : Passed slots
+  passed-stands = passed slots list-stands
+
+  -- the height is from 1 to 6
+  pub height-stands : (1 ≤ k .height) × (k .height ≤ 6)
+  height-stands = (omega (arith, passed-stands .from, s .height), omega (arith, passed-stands .to, s .height))
+
+  pub lawful-stands : Lawful (shares (k .height))
+  lawful-stands = lawful (k .height) (height-stands .0) (height-stands .1)
+
+  -- the list with its forecast is good, and the slots show their segments
+  pub good-stands : Good (shares (k .height)) (roomOf slots F)
+  good-stands = subst (λ (h : ℕ). Good (shares h) (roomOf slots F)) (s .height) (checked slots F (s .passes) .2)
+
+  pub shows-stands : Shows (segmentsOf slots) slots
+  shows-stands = shows-passed slots list-stands
+
+  pub segments-stand : length (segmentsOf slots) ≡ 2 ^ k .height
+  segments-stand = good-stands .proper .size
+
+  -- 64 slots for each, from 2 to 64 segments
+  pub long-stands : length slots ≡ 64 * 2 ^ k .height
+  long-stands = passed-stands .number ∙ ap (λ (h : ℕ). 64 * 2 ^ h) (s .height)
+
+  pub some-stands : 128 ≤ length slots
+  some-stands = long-passed slots list-stands
+
+  pub small-stands : length slots ≤ 4096
+  small-stands = omega (arith, long-stands, pow-le-pow-right {n = 2} (omega arith) {i = k .height} {j = 6} (height-stands .1))
+
+  -- and n keys
+  pub keys-stand : length (keys (segmentsOf slots)) ≡ n
+  keys-stand = ap length (keys-shown slots passed-stands) ∙ s .many
+
+  pub few-stands : n ≤ 4096
+  few-stands = omega (arith, s .many, only-length isKey slots, small-stands)
+
+  -- the forecast has room for its cells, and is tidy
+  pub cells-stand : length (usedCells F) ≤ 12
+  cells-stand = omega (arith, good-stands .ruled .few, height-stands)
+
+  pub tidy-stands : Roomy F → Tidy F
+  tidy-stands r = subst Tidy (forecast-shown slots F (s .passes) r) (is-became (usedCells F) cells-stand .tidy)
+
+-- WHAT A CLIMB ASKS for, of a segment of the list and the keys that it will have
+module _ {slots bounds counts : List ℕ} {k : Shape} {n : ℕ} (K : Known slots bounds counts k n) where
+  few-counted : (j : ℕ) → j < length (segmentsOf slots) → getD counts j 0 ≤ 64
+  few-counted j h = omega (arith, K .index .count j h, K .index .shows .fits (getD (segmentsOf slots) j []) (at-mem (segmentsOf slots) j [] h))
+
+  pub climb-asks : {seg held : ℕ} → seg < length (segmentsOf slots) → held ≤ 65
+      → (1 ≤ k .height) × (k .height ≤ 6) × (2 ^ k .height ≤ length counts) × (seg < 2 ^ k .height) × Fetched (shares (k .height)) k × (held ≤ 65)
+      × ((j : ℕ) → j < 2 ^ k .height → getD counts j 0 ≤ 64)
+  climb-asks h f =
+      let size : length (segmentsOf slots) ≡ 2 ^ k .height = segments-stand (K .stands) in
+      let high : (1 ≤ k .height) × (k .height ≤ 6) = height-stands (K .stands) in
+      (high .0, high .1, omega (arith, size, K .index .long), omega (arith, size), K .stands .shape, f, λ j p. few-counted j (omega (arith, size)))

@@ -1,0 +1,132 @@
+-- A single insert or delete is what the check refuses, or what a run of its one record comes to.
+use mathlib.Core.Path.{_≡_, refl, sym, ap, _∙_}
+use mathlib.Core.Bool.{Bool, true, false, not, _&&_}
+use mathlib.Core.Logic.{_≢_}
+use mathlib.Core.List.{List, [], _∷_}
+use Prim.Native.Nat.{ℕ, _≤_}
+use native.Mathlib.Decide.{decLt}
+use native.Mathlib.Omega.{arith}
+use lib.Dec.{ltb, leb, eqb}
+use lib.ListN.{length}
+use Rattle.lists.proofs.Tests.{either, eq→eqb}
+use Rattle.slots.specs.Segments.{keys, heightOf, render}
+use Rattle.slots.specs.Keys.{member}
+use Rattle.forecast.specs.declared.Forecast.{Forecast}
+use Rattle.forecast.specs.Cells.{forecastOf}
+use Rattle.forecast.specs.Tidy.{Roomy}
+use Rattle.rules.specs.declared.Verdict.{Verdict}
+use Rattle.rules.specs.declared.Verdict.the-variants.{Refused, Accepted}
+use Rattle.rules.specs.declared.Request.the-variants.{Insert, Delete}
+use Rattle.rules.specs.declared.Tally.{Tally}
+use Rattle.rules.specs.Refusals.{verdictNumber}
+use Rattle.rules.specs.Shares.{Shares, capacity, sparseBelow}
+use Rattle.rules.specs.Placing.{Room, Answer, Outcome, insertKey, deleteKey, outcome}
+use Rattle.rules.specs.Checks.{sharesOf, check}
+use Rattle.rules.specs.Calls.{roomOf, Called, unchanged, request}
+use Rattle.rules.specs.Runs.{recordsOf}
+use Rattle.rules.proofs.Refusals.Told.{refusal-some}
+use Rattle.rules.proofs.Sweeping.Settled.{keys-settled}
+use Rattle.rules.proofs.Requests.Accepted.{settled-sparse, Deletes, delete-accepted, refused-is}
+use Rattle.rules.proofs.Requests.Checked.{checked}
+use Rattle.rules.proofs.Requests.MoveBound.{moves-bound}
+use Rattle.rules.proofs.Requests.SingleCalls.{lent, request-unchecked}
+use Rattle.rules.proofs.Demand2.Ruled.{request-ruled}
+use Rattle.records.specs.Asked.{asked}
+use Rattle.records.proofs.Single.{SingleRun, single-run}
+use Rattle.steps.specs.declared.Worked.{Worked}
+use Rattle.tallies.specs.Counted.{isAccepted}
+use Rattle.steps.specs.Works.{whole, Ends}
+use Rattle.opening.specs.Opens.{Refuses, Opens}
+use Rattle.asking.specs.declared.Reply.{Reply}
+use Rattle.asking.specs.Requested.{TellsSparse, Requested}
+
+-- SPARSE: an insert never tells it
+abbrev Dense : Outcome → Type 0
+Dense o = o .answer .sparse ≡ false
+
+key-dense : (S : Shares) (y : ℕ) (R : Room) → Dense (insertKey S y R)
+unfolding insertKey
+key-dense S y R = settled-sparse S _ _ _ _ _ _
+
+pub outcome-dense : (S : Shares) (y : ℕ) (R : Room) → outcome S (Insert y) R .answer .sparse ≡ false
+unfolding outcome
+outcome-dense S y R =
+    either Dense (eqb y 0) refl
+    (either Dense (member y (keys (R .segments))) refl (either Dense (leb (capacity S) (length (keys (R .segments)))) refl (key-dense S y R)))
+
+-- a delete that is done tells it by the keys that it leaves
+key-sparse : (S : Shares) (y : ℕ) (R : Room) → deleteKey S y R .answer .sparse ≡ ltb (length (keys (deleteKey S y R .room .segments))) (sparseBelow S)
+unfolding deleteKey
+key-sparse S y R = settled-sparse S _ _ _ _ _ _ ∙ ap (λ (ks : List ℕ). ltb (length ks) (sparseBelow S)) (sym (keys-settled S _ _ _ _ _ _))
+
+abbrev left : Outcome → ℕ
+left o = length (keys (o .room .segments))
+
+-- of either, with verdict v
+sparse-is : (S : Shares) (b : Bool) (y : ℕ) (R : Room) (v : Verdict) → verdictNumber v ≡ outcome S (asked b y) R .answer .number
+    → not b && isAccepted v && ltb (left (outcome S (asked b y) R)) (sparseBelow S) ≡ outcome S (asked b y) R .answer .sparse
+sparse-is S true y R v e = sym (outcome-dense S y R)
+sparse-is S false y R (Refused x) e =
+    sym (ap (λ (o : Outcome). o .answer .sparse) (refused-is S (Delete y) R (omega (arith, e, refusal-some x))))
+sparse-is S false y R Accepted e =
+    let d : Deletes S y R = delete-accepted S y R (eq→eqb _ 0 (sym e)) in
+    rw (d .is) (sym (key-sparse S y R))
+
+-- a verdict with some number
+not-accepted : (v : Verdict) → verdictNumber v ≢ 0 → isAccepted v ≡ false
+not-accepted (Refused x) n = refl
+not-accepted Accepted n = absurd (n refl)
+
+-- the reply to what was worked
+abbrev replyOf : Worked → Bool → Reply
+replyOf r s = record { forecast = r .forecast; verdict = r .last; moves = r .tally .moves; sparse = s }
+
+module _ (b : Bool) (y : ℕ) (slots : List ℕ) (F : Forecast) (bytes : List ℕ) (allowance : ℕ) (r : Worked) (rest : List ℕ) (s : Bool)
+    (t : TellsSparse b (r .last) (r .keys) (length slots) s) where
+  -- WHAT THE CHECK REFUSES
+  requested-refused : check slots F ≢ 0 → Refuses slots F r rest → Requested (asked b y) slots F (replyOf r s) rest
+  requested-refused n w =
+      let u : request (asked b y) slots F ≡ unchanged slots F (check slots F) = request-unchecked (asked b y) slots F n in
+      let p : s ≡ false = t .refused (not-accepted (r .last) (λ z. n (sym (w .last) ∙ z))) in
+      record {
+        answer = _∙_ {A = Answer} (λ i. record { number = w .last i; moves = w .tally i .moves; sparse = p i }) (sym (ap (λ (d : Called). d .answer) u));
+        forecast = w .forecast ∙ sym (ap (λ (d : Called). d .forecast) u);
+        slots-left = w .slots-left ∙ sym (ap (λ (d : Called). d .slots) u);
+      }
+
+  -- WHAT IT PASSES: a run of one record, with any allowance from 4096 on
+  module _ (one : recordsOf bytes ≡ asked b y ∷ []) (big : 4096 ≤ allowance) (h : Roomy F) where
+    module _ (e : check slots F ≡ 0) (w : Ends slots F bytes allowance r rest) where
+      small : lent (asked b y) slots F .answer .moves ≤ allowance
+      small =
+          let c = checked slots F e in
+          omega (arith, moves-bound (heightOf (length slots)) (c .0) (c .1) (asked b y) (roomOf slots F) (c .2))
+
+      single : SingleRun (sharesOf slots) (asked b y) (roomOf slots F) (whole slots F bytes allowance)
+      single = single-run (sharesOf slots) allowance bytes (roomOf slots F) b y one small
+
+      number : verdictNumber (r .last) ≡ lent (asked b y) slots F .answer .number
+      number = w .single (asked b y) one (single .stop)
+
+      sparse : s ≡ lent (asked b y) slots F .answer .sparse
+      sparse =
+          t .is (checked slots F e .0)
+          ∙ ap {B = Bool} (λ n. not b && isAccepted (r .last) && ltb n (sparseBelow (sharesOf slots))) (w .keys ∙ ap (λ (R : Room). length (keys (R .segments))) (single .room))
+          ∙ sparse-is (sharesOf slots) b y (roomOf slots F) (r .last) number
+
+      requested-done : Requested (asked b y) slots F (replyOf r s) rest
+      requested-done =
+          let a = request-ruled (asked b y) slots F h e in
+          record {
+            answer = _∙_ {A = Answer} (λ i. record { number = number i; moves = (ap (λ (t : Tally). t .moves) (w .tally) ∙ single .moves) i; sparse = sparse i }) (sym (a .answer));
+            forecast = w .forecast ∙ ap (λ (R : Room). forecastOf (R .cells)) (single .room) ∙ sym (a .forecast);
+            slots-left = w .slots-left ∙ ap (λ (R : Room). render 0 (R .segments)) (single .room) ∙ sym (a .slots);
+          }
+
+    -- EITHER
+    pub requested : Opens slots F bytes allowance r rest → Requested (asked b y) slots F (replyOf r s) rest
+    requested o =
+        elim (decLt 0 (check slots F)) [
+          | yes p ↦ (let n : check slots F ≢ 0 = omega arith in requested-refused n (o .refused n))
+          | no p ↦ (let c : check slots F ≡ 0 = omega arith in requested-done c (o .ended c))
+        ]

@@ -1,0 +1,49 @@
+// A single request on anything that is lent: a run of its one record.
+ghost use Rattle.records.specs.Asked.{asked};
+ghost use Rattle.asking.specs.Requested.{TellsSparse, Requested};
+use forecast::Forecast;
+use rules::Verdict;
+
+// What a request comes to, before it is told as an insert's or a delete's answer.
+pub struct Reply {
+    pub forecast: Forecast,
+    pub verdict: Verdict,
+    pub moves: u64,
+    pub sparse: bool,
+}
+
+// Told of an accepted delete: of a list of `long` slots, fewer keys are left than its shape's floor.
+fn is_sparse(grows: bool, verdict: Verdict, keys: usize, long: usize) -> bool
+    ensures { λ r. ⌜ TellsSparse grows verdict keys long r ⌝ }
+{
+    if grows {
+        return false;
+    }
+    if let Verdict::Refused(_) = verdict {
+        return false;
+    }
+    let height = slots::heights::height_of(long);
+    if height == 0 {
+        return false;
+    }
+    let shape = shares::shape_of(height);
+    keys < shape.floor
+}
+
+// The request's record is worked with an allowance that it cannot pass.
+pub fn ask(list: &mut [u64], forecast: Forecast, grows: bool, key: u64) -> Reply
+    ensures { λ r. ⌜ Requested (asked grows key) (now (list .entry)) forecast r (now (list .exit)) ⌝ }
+{
+    let bytes = records::record_of(grows, key);
+    let worked = opening::work_lent(list, forecast, &bytes, 18446744073709551615);
+    let after = worked.forecast;
+    let tally = worked.tally;
+    let last = worked.last;
+    let sparse = is_sparse(grows, last, worked.keys, list.len());
+    Reply {
+        forecast: after,
+        verdict: last,
+        moves: tally.moves,
+        sparse,
+    }
+}

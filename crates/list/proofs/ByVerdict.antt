@@ -1,0 +1,41 @@
+-- The answer of a single insert or delete by its verdict.
+use mathlib.Core.Path.{_≡_, refl, sym, ap, _∙_}
+use mathlib.Core.Bool.{Bool, false, not}
+use mathlib.Core.List.{List}
+use Prim.Native.Nat.{ℕ}
+use native.Mathlib.Omega.{arith}
+use lib.Dec.{eqb}
+use Rattle.lists.proofs.Tests.{either}
+use Rattle.forecast.specs.declared.Forecast.{Forecast}
+use Rattle.rules.specs.declared.Refusal.{Refusal}
+use Rattle.rules.specs.declared.Verdict.the-variants.{Refused, Accepted}
+use Rattle.rules.specs.declared.Request.{Request}
+use Rattle.rules.specs.declared.Request.the-variants.{Insert}
+use Rattle.rules.specs.Refusals.{refusalNumber, verdictNumber}
+use Rattle.rules.specs.Placing.{Answer, refused}
+use Rattle.rules.specs.Checks.{sharesOf, check}
+use Rattle.rules.specs.Calls.{roomOf, Called, request}
+use Rattle.rules.proofs.Refusals.Refused.{request-refused}
+use Rattle.rules.proofs.Refusals.Told.{refusal-some}
+use Rattle.rules.proofs.Requests.SingleCalls.{lent}
+use Rattle.asking.specs.declared.Reply.{Reply}
+use Rattle.asking.specs.Requested.{Requested}
+use Rattle.asking.proofs.OneRecord.{outcome-dense}
+
+-- AN INSERT never tells sparse
+pub insert-dense : (slots : List ℕ) (F : Forecast) (y : ℕ) → request (Insert y) slots F .answer .sparse ≡ false
+unfolding request
+insert-dense slots F y =
+    either (λ (d : Called). d .answer .sparse ≡ false) (not (eqb (check slots F) 0)) refl
+    (either (λ (d : Called). d .answer .sparse ≡ false) (not (eqb (lent (Insert y) slots F .answer .number) 0)) refl (outcome-dense (sharesOf slots) y (roomOf slots F)))
+
+-- THE ANSWER: where it refuses, the number alone
+module _ (q : Request) (slots : List ℕ) (F : Forecast) (r : Reply) (rest : List ℕ) (c : Requested q slots F r rest) where
+  pub answer-refused : (x : Refusal) → r .verdict ≡ Refused x → refused (refusalNumber x) ≡ request q slots F .answer
+  answer-refused x v =
+      let n : request q slots F .answer .number ≡ refusalNumber x = sym (ap (λ (d : Answer). d .number) (c .answer)) ∙ ap verdictNumber v in
+      ap refused (sym n) ∙ sym (ap (λ (d : Called). d .answer) (request-refused q slots F (omega (arith, refusal-some x))))
+
+  -- where it accepts, the moves, and whether the list is sparse
+  pub answer-done : (b : Bool) → r .verdict ≡ Accepted → r .sparse ≡ b → record { number = 0; moves = r .moves; sparse = b } ≡ request q slots F .answer
+  answer-done b v p = _∙_ {A = Answer} (λ i. record { number = ap verdictNumber (sym v) i; moves = r .moves; sparse = sym p i }) (c .answer)

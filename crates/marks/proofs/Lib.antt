@@ -1,0 +1,4 @@
+pub mod Spots
+pub mod CellMarks
+pub mod Standing
+pub mod Handed

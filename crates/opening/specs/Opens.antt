@@ -1,0 +1,24 @@
+-- Records worked on anything that is lent.
+use Prim.Native.Nat.{ℕ}
+use mathlib.Core.Path.{_≡_}
+use mathlib.Core.Logic.{_≢_}
+use mathlib.Core.List.{List}
+use Rattle.forecast.specs.declared.Forecast.{Forecast}
+use Rattle.rules.specs.Refusals.{verdictNumber}
+use Rattle.rules.specs.Checks.{check}
+use Rattle.rules.specs.Runs.{nothing}
+use Rattle.steps.specs.declared.Worked.{Worked}
+use Rattle.steps.specs.Works.{Ends}
+
+-- Refused by the check: its number, and all as it was.
+pub record Refuses (slots : List ℕ) (F : Forecast) (r : Worked) (left : List ℕ) : Type 0 where
+  pub tally : r .tally ≡ nothing
+  pub stop : verdictNumber (r .stop) ≡ check slots F
+  pub last : verdictNumber (r .last) ≡ check slots F
+  pub forecast : r .forecast ≡ F
+  pub slots-left : left ≡ slots
+
+-- Or what the records come to.
+pub record Opens (slots : List ℕ) (F : Forecast) (bytes : List ℕ) (allowance : ℕ) (r : Worked) (left : List ℕ) : Type 0 where
+  pub refused : check slots F ≢ 0 → Refuses slots F r left
+  pub ended : check slots F ≡ 0 → Ends slots F bytes allowance r left

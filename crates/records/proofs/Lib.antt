@@ -1,0 +1,3 @@
+pub mod KeyBytes
+pub mod RecordBytes
+pub mod Single

@@ -1,0 +1,70 @@
+-- Keys written into a lent output, stretch by stretch: what is known between two stretches, and where the writing ends.
+use mathlib.Core.Path.{_≡_, refl, sym, ap, ap₂, _∙_}
+use mathlib.Core.Bool.{true, false}
+use mathlib.Core.List.{List, [], _++_}
+use Prim.Native.Nat.{ℕ, _+_, _≤_, _<_}
+use native.Mathlib.Omega.{arith}
+use borrow.Author.Tests.{lt-ltb, le-ltb}
+use lib.ListN.{length, take, drop, length-append, length-drop}
+use lib.Seq.{paste, take-all, take-at, drop-at, take-append-le, drop-append-add, take-take, take-add, drop-drop, length-take-le}
+use Rattle.scans.specs.Scans.{Wrote}
+
+-- w of the keys ks are written into out, which is now left, and the others are a stretch and the later ones
+pub record Halfway (ks out left : List ℕ) (w : ℕ) (stretch later : List ℕ) : Type 0 where
+  pub few : w ≤ length ks
+  pub rest : drop w ks ≡ stretch ++ later
+  pub output : left ≡ take w ks ++ drop w out
+
+-- before the first key
+pub halfway-none : (ks out stretch later : List ℕ) → ks ≡ stretch ++ later → Halfway ks out out 0 stretch later
+halfway-none ks out stretch later e = record { few = omega arith; rest = e; output = refl }
+
+-- the later keys begin with a stretch
+pub halfway-later : {ks out left later : List ℕ} {w : ℕ} → Halfway ks out left w [] later → (stretch rest : List ℕ) → later ≡ stretch ++ rest → Halfway ks out left w stretch rest
+halfway-later h stretch rest e = record { few = h .few; rest = h .rest ∙ e; output = h .output }
+
+module _ (ks out left later src : List ℕ) (w n : ℕ) (h : Halfway ks out left w (take n src) later) (l : n ≤ length src) where
+  enough : w + n ≤ length ks
+  enough =
+      omega (arith, h .few, length-drop w ks, ap length (h .rest), length-append (take n src) later, length-take-le n src l)
+
+  -- j keys of the stretch are copied
+  copied : (j : ℕ) → j ≤ n → paste left w src j ≡ take (w + j) ks ++ drop (w + j) out
+  copied j k =
+      let long : length (take w ks) ≡ w = length-take-le w ks (h .few) in
+      let first : take w left ≡ take w ks = ap (take w) (h .output) ∙ take-at (take w ks) (drop w out) w long in
+      let next : take j src ≡ take j (drop w ks) =
+      sym (take-take j n src k) ∙ sym (take-append-le j (take n src) later (omega (arith, length-take-le n src l))) ∙ ap (take j) (sym (h .rest)) in
+      let last : drop (w + j) left ≡ drop (w + j) out =
+      ap (drop (w + j)) (h .output) ∙ ap (λ (m : ℕ). drop (m + j) (take w ks ++ drop w out)) (sym long) ∙ drop-append-add (take w ks) (drop w out) j ∙ drop-drop j w out in
+      ap₂ {C = List ℕ} (λ p q. p ++ q) (ap₂ {C = List ℕ} (λ p q. p ++ q) first next ∙ sym (take-add w j ks)) last
+
+  -- THE WHOLE STRETCH
+  pub halfway-more : (left′ : List ℕ) → left′ ≡ paste left w src n → Halfway ks out left′ (w + n) [] later
+  halfway-more left′ e = record {
+    few = enough;
+    rest = sym (drop-drop n w ks) ∙ ap (drop n) (h .rest) ∙ drop-at (take n src) later n (length-take-le n src l);
+    output = e ∙ copied n (omega arith);
+  }
+
+  -- THE OUTPUT IS FULL before the stretch ends
+  pub page-full : (left′ : List ℕ) (room : ℕ) → w + room ≡ length out → room < n → left′ ≡ paste left w src room → Wrote ks out (record { keys = w + room; more = true }) left′
+  page-full left′ room e k q =
+      let long : length (take (length out) ks) ≡ length out = length-take-le (length out) ks (omega (arith, enough)) in
+      record {
+        written = e ∙ sym long;
+        more = sym (lt-ltb (length (take (length out) ks)) (length ks) (omega (arith, enough)));
+        output = q ∙ copied room (omega arith) ∙ ap₂ {C = List ℕ} (λ i j. take i ks ++ drop j out) e (e ∙ sym long);
+      }
+
+-- NO KEY IS LEFT
+pub page-ended : {ks out left later : List ℕ} {w : ℕ} → Halfway ks out left w [] later → later ≡ [] → w ≤ length out → Wrote ks out (record { keys = w; more = false }) left
+page-ended {ks} {out} {left} {later} {w} h e k =
+    let all : w ≡ length ks = omega (arith, h .few, length-drop w ks, ap length (h .rest ∙ e)) in
+    let page : take (length out) ks ≡ ks = take-all (length out) ks (omega arith) in
+    let long : length (take (length out) ks) ≡ length ks = ap length page in
+    record {
+      written = all ∙ sym long;
+      more = sym (le-ltb (length (take (length out) ks)) (length ks) (omega arith));
+      output = h .output ∙ ap₂ {C = List ℕ} (λ p j. p ++ drop j out) (take-all w ks (omega arith) ∙ sym page) (all ∙ sym long);
+    }

@@ -1,5 +1,0 @@
-pub mod CellMarks
-pub mod Halves
-pub mod Inserted
-pub mod Spots
-pub mod ByLevel

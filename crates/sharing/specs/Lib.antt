@@ -1,2 +1,0 @@
-pub mod Climbs
-pub mod Steps

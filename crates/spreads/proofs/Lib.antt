@@ -1,0 +1,3 @@
+pub mod Packing
+mod Laying
+mod Inserting

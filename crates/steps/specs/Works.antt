@@ -1,0 +1,48 @@
+-- Records worked in order on a list that has been checked.
+use Prim.Native.Nat.{ℕ}
+use mathlib.Core.Path.{_≡_}
+use mathlib.Core.List.{List, [], _∷_}
+use lib.ListN.{length}
+use Rattle.slots.specs.Segments.{keys, segmentsOf, render}
+use Rattle.forecast.specs.declared.Forecast.{Forecast}
+use Rattle.forecast.specs.Cells.{usedCells, forecastOf}
+use Rattle.rules.specs.declared.Request.{Request}
+use Rattle.rules.specs.Refusals.{verdictNumber}
+use Rattle.rules.specs.Placing.{Outcome, outcome}
+use Rattle.rules.specs.Runs.{recordsOf, Ran, ran}
+use Rattle.rules.specs.Checks.{sharesOf}
+use Rattle.rules.specs.Calls.{roomOf}
+use Rattle.rules.specs.Shares.{shares}
+use Rattle.shares.specs.declared.Shape.{Shape}
+use Rattle.seeking.specs.Bounds.{Indexed}
+use Rattle.aims.specs.declared.Aim.{Aim}
+use Rattle.aims.specs.Aims.{Stands, Aimed}
+use Rattle.steps.specs.declared.Worked.{Worked}
+
+-- A request q decided on a list of n keys: r is what it comes to.
+pub record Turning (slots : List ℕ) (F : Forecast) (bounds counts : List ℕ) (k : Shape) (q : Request) (n : ℕ) (r : Aim) : Type 0 where
+  pub stands : Stands slots F k n
+  pub shown : forecastOf (usedCells F) ≡ F
+  pub index : Indexed (segmentsOf slots) slots bounds counts
+  pub aimed : Aimed (shares (k .height)) q (roomOf slots F) r
+
+-- What it leaves stands again, with n keys, and shows what the rules leave.
+pub record Turned (o : Outcome) (slots : List ℕ) (F : Forecast) (bounds counts : List ℕ) (k : Shape) (n : ℕ) : Type 0 where
+  pub stands : Stands slots F k n
+  pub shown : forecastOf (usedCells F) ≡ F
+  pub index : Indexed (segmentsOf slots) slots bounds counts
+  pub room : roomOf slots F ≡ o .room
+
+-- The run of the rules on what is lent.
+abbrev pub whole : List ℕ → Forecast → List ℕ → ℕ → Ran
+whole slots F bytes allowance = ran (sharesOf slots) allowance bytes (roomOf slots F)
+
+-- What the records come to; of a single one that is not over the allowance, also its number and the keys then.
+pub record Ends (slots : List ℕ) (F : Forecast) (bytes : List ℕ) (allowance : ℕ) (r : Worked) (left : List ℕ) : Type 0 where
+  pub tally : r .tally ≡ whole slots F bytes allowance .tally
+  pub stop : verdictNumber (r .stop) ≡ whole slots F bytes allowance .stop
+  pub forecast : r .forecast ≡ forecastOf (whole slots F bytes allowance .room .cells)
+  pub slots-left : left ≡ render 0 (whole slots F bytes allowance .room .segments)
+  pub keys : r .keys ≡ length (keys (whole slots F bytes allowance .room .segments))
+  pub single : (q : Request) → recordsOf bytes ≡ q ∷ [] → whole slots F bytes allowance .stop ≡ 0
+      → verdictNumber (r .last) ≡ outcome (sharesOf slots) q (roomOf slots F) .answer .number

@@ -1,0 +1,63 @@
+// Records worked in order within an allowance of moves, on a list that has been checked.
+ghost use mathlib.Core.Path.{_≡_};
+ghost use lib.ListN.{length};
+ghost use Rattle.slots.specs.Segments.{segmentsOf};
+ghost use Rattle.seeking.specs.Bounds.{Indexed};
+ghost use Rattle.aims.specs.Aims.{Stands};
+ghost use Rattle.steps.specs.Works.{Ends};
+use crate::Worked;
+use forecast::Forecast;
+use rules::Verdict;
+use shares::Shape;
+
+// The records in order: each is decided, then acted on. `plan` is a buffer for the plans of sweeps.
+pub fn work(
+    list: &mut [u64],
+    counts: &mut [usize],
+    bounds: &mut [u64],
+    plan: &mut [usize],
+    mut forecast: Forecast,
+    shape: Shape,
+    mut keys: usize,
+    requests: &[u8],
+    allowance: u64,
+) -> Worked
+    requires { ⌜ Stands (now list) forecast shape keys × Indexed (segmentsOf (now list)) (now list) (now bounds) (now counts) × (length (now plan) ≡ 64) ⌝ }
+    ensures { λ r. ⌜ Ends (now (list .entry)) forecast (now (requests .entry)) allowance r (now (list .exit)) ⌝ }
+{
+    let mut last = Verdict::Accepted;
+    let mut tally = tallies::none();
+    while tally.place < requests.len() {
+        let aim = tallies::aim_at(list, bounds, counts, shape, keys, requests, tally.place);
+        let left = allowance - tally.moves;
+        if tallies::halts(aim, left) {
+            let stop = tallies::within(aim, left);
+            return Worked {
+                forecast,
+                tally,
+                stop,
+                last,
+                keys,
+            };
+        }
+        let verdict = aim.verdict;
+        last = verdict;
+        let done = tallies::is_accepted(verdict);
+        if done {
+            forecast = acts::note(forecast, shape, aim);
+            acts::act(list, counts, bounds, plan, forecast, shape, aim);
+            if aim.level != 0 {
+                forecast = acts::retarget(forecast, bounds, aim);
+            }
+        }
+        keys = tallies::grown(keys, aim, done);
+        tally = tallies::next(tally, aim, done);
+    }
+    Worked {
+        forecast,
+        tally,
+        stop: Verdict::Accepted,
+        last,
+        keys,
+    }
+}

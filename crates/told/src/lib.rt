@@ -1,0 +1,60 @@
+// A run told in numbers, and over totals that are lent, as C programs take it.
+ghost use Rattle.told.specs.Tells.{RunTells};
+use forecast::Forecast;
+use rules::Tally;
+use rules::Totals;
+
+// What a run comes to: the forecast that it hands back, what it has counted, and the number of what refused or stopped it, or 0.
+#[repr(C)]
+pub struct Told {
+    pub forecast: Forecast,
+    pub tally: Tally,
+    pub stop: u64,
+}
+
+pub struct ToldRun {
+    pub told: Told,
+    pub totals: Totals,
+}
+
+// A run told in numbers.
+pub fn run_told(
+    list: &mut [u64],
+    forecast: Forecast,
+    requests: &[u8],
+    allowance: u64,
+    totals: Totals,
+) -> ToldRun
+    ensures { λ r. ⌜ RunTells (now (list .entry)) forecast (now (requests .entry)) allowance totals r (now (list .exit)) ⌝ }
+{
+    let done = run::running::run_with(list, forecast, requests, allowance, totals);
+    let reply = done.reply;
+    let left = reply.forecast;
+    let tally = reply.tally;
+    let verdict = reply.stop;
+    let after = done.totals;
+    ToldRun {
+        told: Told {
+            forecast: left,
+            tally,
+            stop: words::numbers::verdict_number(verdict),
+        },
+        totals: after,
+    }
+}
+
+// The run, adding to the totals that are lent. A C program may call it too.
+#[no_mangle]
+pub extern "C" fn ff_run_over(
+    list: &mut [u64],
+    forecast: Forecast,
+    requests: &[u8],
+    allowance: u64,
+    totals: &mut Totals,
+) -> Told
+    ensures { λ r. ⌜ RunTells (now (list .entry)) forecast (now (requests .entry)) allowance (now (totals .entry)) (record { told = r; totals = now (totals .exit) }) (now (list .exit)) ⌝ }
+{
+    let done = run_told(list, forecast, requests, allowance, *totals);
+    *totals = done.totals;
+    done.told
+}

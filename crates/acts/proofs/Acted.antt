@@ -16,11 +16,11 @@ use Rattle.slots.specs.Segments.{Segments, keys, segmentsOf}
 use Rattle.slots.specs.Keys.{member, below, above, cut, predecessor, segmentOf}
 use Rattle.slots.specs.Shown.{seat, Located}
 use Rattle.slots.proofs.Seats.{seat-free, seat-live}
-use Rattle.forecast.specs.declared.Cell.{Cell}
+use Rattle.cells.specs.declared.Cell.{Cell}
+use Rattle.cells.specs.Steps.{retargeted}
+use Rattle.cells.proofs.Ruled.{Placed}
 use Rattle.forecast.specs.declared.Forecast.{Forecast}
-use Rattle.forecast.specs.Steps.{retargeted}
 use Rattle.forecast.specs.Tidy.{Marker}
-use Rattle.forecast.proofs.Ruled.{Placed}
 use Rattle.rules.specs.Shares.{Shares, shares, sparseBelow, cellsOf}
 use Rattle.rules.specs.Placing.{Room, Outcome, home, putIn, cutFrom, chosen, insertLevel, deleteLevel, sweep, settled, insertKey, deleteKey, outcome}
 use Rattle.rules.specs.History.{accepted}

@@ -14,10 +14,11 @@ use Rattle.slots.specs.Windows.{start, window}
 use Rattle.slots.proofs.Windows.{start-le, lt-end, start-fits}
 use Rattle.slots.proofs.Keys.{segment-front, segment-mem}
 use Rattle.slots.proofs.Within.{segment-own}
-use Rattle.forecast.specs.declared.Cell.{Cell}
+use Rattle.cells.specs.declared.Cell.{Cell}
+use Rattle.cells.specs.Cells.{weight}
+use Rattle.cells.specs.Steps.{aimed, retargeted}
 use Rattle.forecast.specs.declared.Forecast.{Forecast}
-use Rattle.forecast.specs.Cells.{weight, usedCells, forecastOf}
-use Rattle.forecast.specs.Steps.{aimed, retargeted}
+use Rattle.forecast.specs.Cells.{usedCells, forecastOf}
 use Rattle.forecast.specs.Tidy.{Became, Marker, Live, Outside, Elsewhere}
 use Rattle.forecast.proofs.Became.{became-is}
 use Rattle.rules.specs.Shares.{Shares, shares}
@@ -26,8 +27,8 @@ use Rattle.rules.specs.Calls.{roomOf}
 use Rattle.rules.proofs.Sharing.SharingOut.{length-shareOut}
 use Rattle.rules.proofs.Sweeping.SweptWindow.{splice-set}
 use Rattle.shares.specs.declared.Shape.{Shape}
-use Rattle.seeking.specs.Bounds.{Bounded}
-use Rattle.seeking.proofs.Counts.{splice-before, splice-after}
+use Rattle.seats.specs.Bounds.{Bounded}
+use Rattle.slots.proofs.Tables.{splice-before, splice-after}
 use Rattle.aims.specs.declared.Aim.{Aim}
 use Rattle.aims.specs.Aims.{seatFor}
 use Rattle.aims.proofs.Standing.{good-stands, shows-stands, segments-stand}

@@ -14,9 +14,9 @@ use Rattle.slots.specs.Shown.{seat, Located}
 use Rattle.slots.proofs.Keys.{member→mem, not-member, segment-mem}
 use Rattle.slots.proofs.Seats.{seat-free, seat-live}
 use Rattle.slots.proofs.ByPlace.{place-old}
+use Rattle.cells.specs.Steps.{noted, dropped}
 use Rattle.forecast.specs.declared.Forecast.{Forecast}
 use Rattle.forecast.specs.Cells.{usedCells}
-use Rattle.forecast.specs.Steps.{noted, dropped}
 use Rattle.forecast.specs.Tidy.{Tidy, Roomy, Became}
 use Rattle.rules.specs.Shares.{Shares, shares}
 use Rattle.rules.specs.Placing.{Room, home, insertLevel}
@@ -26,7 +26,7 @@ use Rattle.rules.specs.Calls.{roomOf}
 use Rattle.rules.proofs.Sweeping.Sizes.{insert-always-finds}
 use Rattle.rules.proofs.Requests.Accepted.{Inserts, insert-accepted, Deletes, delete-accepted}
 use Rattle.shares.specs.declared.Shape.{Shape}
-use Rattle.seeking.specs.Bounds.{Indexed}
+use Rattle.seats.specs.Bounds.{Indexed}
 use Rattle.aims.specs.declared.Aim.{Aim}
 use Rattle.records.specs.Asked.{asked}
 use Rattle.aims.specs.Aims.{seatFor, levelFor, levelAt}

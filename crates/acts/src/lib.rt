@@ -34,10 +34,10 @@ fn shift(list: &mut [u64], counts: &mut [usize], bounds: &mut [u64], aim: Aim)
         present: !aim.grows,
     };
     if aim.grows {
-        seeking::changing::put_in(list, counts, place, aim.key);
+        shifts::put_in(list, counts, place, aim.key);
         return;
     }
-    seeking::changing::cut_out(list, bounds, counts, place, aim.key);
+    shifts::cut_out(list, bounds, counts, place, aim.key);
 }
 
 // The list as an accepted request leaves it: the key put in or taken out within its segment, or its window planned and then swept. `noted`

@@ -29,7 +29,7 @@ use Rattle.rules.proofs.Sweeping.Sizes.{insert-always-finds}
 use Rattle.rules.proofs.Requests.OutcomeCases.{outcome-insert-zero, outcome-insert-present, outcome-insert-full, insert-shifted, insert-swept}
 use Rattle.shares.specs.declared.Shape.{Shape}
 use Rattle.seeking.specs.declared.Spot.{Spot}
-use Rattle.seeking.specs.Bounds.{Indexed}
+use Rattle.seats.specs.Bounds.{Indexed}
 use Rattle.seeking.specs.Spots.{Spotted}
 use Rattle.aims.specs.declared.Climb.{Climb}
 use Rattle.aims.specs.declared.Aim.{Aim}

@@ -27,7 +27,7 @@ use Rattle.rules.proofs.Sweeping.SweptWindow.{length-cut-in}
 use Rattle.rules.proofs.Requests.OutcomeCases.{outcome-delete-zero, outcome-delete-absent, delete-stays, delete-swept}
 use Rattle.shares.specs.declared.Shape.{Shape}
 use Rattle.seeking.specs.declared.Spot.{Spot}
-use Rattle.seeking.specs.Bounds.{Indexed}
+use Rattle.seats.specs.Bounds.{Indexed}
 use Rattle.seeking.specs.Spots.{Spotted}
 use Rattle.aims.specs.declared.Climb.{Climb}
 use Rattle.aims.specs.declared.Aim.{Aim}

@@ -18,7 +18,7 @@ use Rattle.rules.specs.Checks.{check}
 use Rattle.records.specs.Asked.{asked}
 use Rattle.shares.specs.declared.Shape.{Shape}
 use Rattle.shares.specs.Rows.{Fetched}
-use Rattle.seeking.specs.Bounds.{Indexed}
+use Rattle.seats.specs.Bounds.{Indexed}
 use Rattle.aims.specs.declared.Aim.{Aim}
 
 -- List and forecast pass the check, with this shape and n keys.

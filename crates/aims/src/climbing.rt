@@ -9,9 +9,9 @@ ghost use Rattle.rules.specs.Shares.{shares, within};
 ghost use Rattle.shares.specs.Rows.{Fetched};
 ghost use Rattle.aims.specs.Climbs.{otherHalf, Climbed};
 use crate::Climb;
+use places::counting::keys_in;
 use rows::wide;
 use shares::Shape;
-use slots::counting::keys_in;
 
 // Where the other half begins of the window of two halves round segment `seg`.
 fn sibling(seg: usize, half: usize) -> usize

@@ -22,7 +22,7 @@ fn is_sparse(grows: bool, verdict: Verdict, keys: usize, long: usize) -> bool
     if let Verdict::Refused(_) = verdict {
         return false;
     }
-    let height = slots::heights::height_of(long);
+    let height = places::heights::height_of(long);
     if height == 0 {
         return false;
     }

@@ -1,20 +1,16 @@
--- The number that a check gives, case by case: of the list alone, and of list and forecast; and what a listing then promises.
+-- What a listing promises that tells a refusal, and one where the order is kept.
 use mathlib.Core.Path.{_≡_, sym, ap, _∙_, subst}
-use mathlib.Core.Bool.{true, false}
+use mathlib.Core.Bool.{true}
 use mathlib.Core.Logic.{_≢_}
 use mathlib.Core.List.{List}
-use Prim.Native.Nat.{ℕ, _≤_, _<_}
+use Prim.Native.Nat.{ℕ}
 use native.Mathlib.Omega.{arith}
-use borrow.Author.Tests.{eq-eqb, ne-eqb, lt-ltb, le-ltb}
 use lib.ListN.{length}
-use Rattle.slots.specs.Segments.{live, heightOf, segmentsOf}
+use Rattle.slots.specs.Segments.{segmentsOf}
 use Rattle.slots.specs.Orders.{orderOf, isKept}
 use Rattle.slots.specs.Shown.{Tallied}
-use Rattle.seeking.proofs.Counts.{counts-front}
-use Rattle.forecast.specs.declared.Forecast.{Forecast}
-use Rattle.forecast.specs.Faults.{faultOf, isSound}
-use Rattle.rules.specs.Shares.{shares, capacity, cellsOf}
-use Rattle.rules.specs.Checks.{sharesOf, checkList, check}
+use Rattle.slots.proofs.Tables.{counts-front}
+use Rattle.rules.specs.Shares.{shares}
 use Rattle.rules.specs.declared.Refusal.{Refusal}
 use Rattle.rules.specs.declared.Verdict.{Verdict}
 use Rattle.rules.specs.declared.Verdict.the-variants.{Refused, Accepted}
@@ -24,39 +20,6 @@ use Rattle.shares.specs.declared.Shape.{Shape}
 use Rattle.shares.specs.Rows.{Fetched}
 use Rattle.checks.specs.declared.Listing.{Listing}
 use Rattle.checks.specs.Listings.{refusing, Looked, Counting}
-
--- THE LIST
-module _ (slots : List ℕ) where
-  pub wrong-length : heightOf (length slots) ≡ 0 → checkList slots ≡ 1
-  unfolding checkList
-  wrong-length e = rw (eq-eqb (heightOf (length slots)) 0 e)
-
-  module _ (n : heightOf (length slots) ≢ 0) where
-    pub wrong-order : isKept (orderOf slots) ≡ false → checkList slots ≡ 2
-    unfolding checkList
-    wrong-order e = rw (ne-eqb (heightOf (length slots)) 0 n, e)
-
-    pub too-many : isKept (orderOf slots) ≡ true → capacity (sharesOf slots) < length (live slots) → checkList slots ≡ 3
-    unfolding checkList
-    too-many e h = rw (ne-eqb (heightOf (length slots)) 0 n, e, lt-ltb (capacity (sharesOf slots)) (length (live slots)) h)
-
-    pub list-sound : isKept (orderOf slots) ≡ true → length (live slots) ≤ capacity (sharesOf slots) → checkList slots ≡ 0
-    unfolding checkList
-    list-sound e h = rw (ne-eqb (heightOf (length slots)) 0 n, e, le-ltb (capacity (sharesOf slots)) (length (live slots)) h)
-
--- LIST AND FORECAST
-module _ (slots : List ℕ) (F : Forecast) where
-  pub list-first : checkList slots ≢ 0 → check slots F ≡ checkList slots
-  unfolding check
-  list-first n = rw (ne-eqb (checkList slots) 0 n)
-
-  pub wrong-forecast : checkList slots ≡ 0 → isSound (faultOf (cellsOf (sharesOf slots)) (segmentsOf slots) F) ≡ false → check slots F ≡ 4
-  unfolding check
-  wrong-forecast e s = rw (eq-eqb (checkList slots) 0 e, s)
-
-  pub both-sound : checkList slots ≡ 0 → isSound (faultOf (cellsOf (sharesOf slots)) (segmentsOf slots) F) ≡ true → check slots F ≡ 0
-  unfolding check
-  both-sound e s = rw (eq-eqb (checkList slots) 0 e, s)
 
 -- A VERDICT that refuses has some number
 pub refused-some : (v : Verdict) (x : Refusal) → v ≡ Refused x → verdictNumber v ≢ 0

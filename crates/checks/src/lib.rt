@@ -31,7 +31,7 @@ pub fn look_over(list: &[u64], counts: &mut [usize]) -> Listing
     ensures looked { λ r. ⌜ ListLooked (now (list .entry)) r ⌝ }
     ensures counts { λ r. ⌜ Counting (now (list .entry)) r (now (counts .exit)) ⌝ }
 {
-    let height = slots::heights::height_of(list.len());
+    let height = places::heights::height_of(list.len());
     if height == 0 {
         return refuse(Refusal::WrongLength);
     }

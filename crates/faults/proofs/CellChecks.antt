@@ -23,13 +23,14 @@ use Rattle.slots.specs.declared.Place.{Place}
 use Rattle.slots.proofs.Keys.{segment-front}
 use Rattle.slots.proofs.Seats.{seat-live}
 use Rattle.slots.proofs.Standing.{stands-live, stands-home}
-use Rattle.forecast.specs.declared.Cell.{Cell}
+use Rattle.cells.specs.declared.Cell.{Cell}
+use Rattle.cells.specs.Cells.{zeroCell, marks}
+use Rattle.cells.proofs.Laws.{place-marker}
 use Rattle.forecast.specs.declared.Forecast.{Forecast}
 use Rattle.forecast.specs.declared.Fault.the-variants.{Sound, NotLive, Misplaced}
-use Rattle.forecast.specs.Cells.{zeroCell, cells, marks}
+use Rattle.forecast.specs.Cells.{cells}
 use Rattle.forecast.specs.Tidy.{CellOf}
 use Rattle.forecast.specs.Faults.{markerFault}
-use Rattle.forecast.proofs.Laws.{place-marker}
 
 -- A MARKER THAT IS THE FRONT is in segment 0
 front-is : (ss : Segments) (k : ℕ) → k ≡ 0 → segmentOf ss k ≡ 0

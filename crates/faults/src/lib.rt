@@ -1,12 +1,12 @@
 // What is wrong with a forecast, if anything: the first cell that has a fault, and which.
 ghost use mathlib.Core.Path.{_≡_};
-ghost use Prim.Native.Nat.{ℕ, _≤_, _<_};
+ghost use Prim.Native.Nat.{_≤_, _<_};
 ghost use lib.ListN.{length};
 ghost use Rattle.slots.specs.Segments.{Segments};
 ghost use Rattle.slots.specs.Shown.{Shows};
 ghost use Rattle.forecast.specs.Faults.{isZero, markerFault, faultAt, isSound, faultOf};
 ghost use Rattle.forecast.specs.Tidy.{CellOf};
-use forecast::Cell;
+use cells::Cell;
 use forecast::Fault;
 use forecast::Forecast;
 
@@ -58,10 +58,10 @@ fn marker_fault(cell: Cell, i: usize, list: &[u64]) -> Fault
         return Fault::Misplaced(i);
     }
     // The segment that the cell names first: most often the marker is there.
-    if slots::finding::stands_in(list, cell.segment, cell.marker) {
+    if places::finding::stands_in(list, cell.segment, cell.marker) {
         return Fault::Sound;
     }
-    let place = slots::finding::locate(list, cell.marker);
+    let place = places::finding::locate(list, cell.marker);
     if place.present {
         if cell.segment == place.segment {
             return Fault::Sound;

@@ -5,10 +5,11 @@ use Prim.Native.Nat.{ℕ}
 use Rattle.lists.specs.Lists.{padded}
 use Rattle.slots.specs.Segments.{Segments}
 use Rattle.slots.specs.Keys.{segmentOf}
-use Rattle.forecast.specs.declared.Cell.{Cell}
+use Rattle.cells.specs.declared.Cell.{Cell}
+use Rattle.cells.specs.Cells.{cell, zeroCell, row}
 use Rattle.forecast.specs.declared.Forecast.{Forecast}
 use Rattle.forecast.specs.declared.Fault.the-variants.{Sound, TooMany, NotZero, Count, Repeated, NotLive, Misplaced}
-use Rattle.forecast.specs.Cells.{cell, zeroCell, cells, row, forecastOf}
+use Rattle.forecast.specs.Cells.{cells, forecastOf}
 use Rattle.forecast.specs.Faults.{faultAt, faultOf}
 
 -- keys 10 and 20 in segment 0, 30 in segment 1

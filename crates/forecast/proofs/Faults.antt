@@ -19,15 +19,16 @@ use Rattle.lists.proofs.Search.{Firsts, firsts}
 use Rattle.lists.proofs.Fill.{getD-padded, length-padded}
 use Rattle.slots.specs.Segments.{Segments}
 use Rattle.slots.specs.Keys.{segmentOf}
-use Rattle.forecast.specs.declared.Cell.{Cell}
+use Rattle.cells.specs.declared.Cell.{Cell}
+use Rattle.cells.specs.Cells.{zeroCell}
+use Rattle.cells.proofs.Ruled.{markerAt, Counted, Ruled, Placed}
 use Rattle.forecast.specs.declared.Forecast.{Forecast}
 use Rattle.forecast.specs.declared.Fault.{Fault}
 use Rattle.forecast.specs.declared.Fault.the-variants.{Sound, TooMany, NotZero, Count, Repeated, NotLive, Misplaced}
-use Rattle.forecast.specs.Cells.{zeroCell, cells, usedCells, forecastOf}
+use Rattle.forecast.specs.Cells.{cells, usedCells, forecastOf}
 use Rattle.forecast.specs.Faults.{faultAt, isSound, faultOf}
 use Rattle.forecast.proofs.Laws.{used-forecastOf, length-forecastOf, forecastOf-used, forecastOf-cells}
 use Rattle.forecast.proofs.Stepping.{roomy-12, roomy-whole}
-use Rattle.forecast.proofs.Ruled.{markerAt, Counted, Ruled, Placed}
 use Rattle.forecast.specs.Tidy.{Marker, Roomy}
 use Rattle.forecast.proofs.Readings.{nth, BadBy, tooMany, noCount, overCount, repeated, notLive, misplaced, notZero, Good, Fine, Says, read-at}
 

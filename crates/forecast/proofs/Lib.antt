@@ -1,8 +1,5 @@
 pub mod Rows
 pub mod Laws
-pub mod Ruled
-pub mod Origins
-pub mod Kept
 pub mod Readings
 pub mod Faults
 pub mod Cases

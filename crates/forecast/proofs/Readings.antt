@@ -15,14 +15,15 @@ use Rattle.lists.proofs.Members.{mem-at, at-mem}
 use Rattle.lists.proofs.Filtered.{any-none, any-some}
 use Rattle.slots.specs.Segments.{Segments, keys}
 use Rattle.slots.specs.Keys.{member, segmentOf}
-use Rattle.forecast.specs.declared.Cell.{Cell}
+use Rattle.cells.specs.declared.Cell.{Cell}
+use Rattle.cells.specs.Cells.{zeroCell, marks}
+use Rattle.cells.proofs.Ruled.{Counted}
 use Rattle.forecast.specs.declared.Forecast.{Forecast}
 use Rattle.forecast.specs.declared.Fault.{Fault}
 use Rattle.forecast.specs.declared.Fault.the-variants.{Sound, TooMany, NotZero, Count, Repeated, NotLive, Misplaced}
-use Rattle.forecast.specs.Cells.{zeroCell, cells, marks}
+use Rattle.forecast.specs.Cells.{cells}
 use Rattle.forecast.specs.Tidy.{Marker}
 use Rattle.forecast.specs.Faults.{isZero, faultAt}
-use Rattle.forecast.proofs.Ruled.{Counted}
 use Rattle.slots.proofs.Keys.{member→mem, mem→member}
 
 -- the cell at a place

@@ -9,12 +9,14 @@ use Rattle.lists.specs.Lists.{padded}
 use Rattle.lists.proofs.Fill.{getD-padded, take-padded-all}
 use Rattle.lists.specs.Search.{placeBy}
 use Rattle.lists.proofs.Maps.{place-map}
-use Rattle.forecast.specs.declared.Cell.{Cell}
+use Rattle.cells.specs.declared.Cell.{Cell}
+use Rattle.cells.specs.Cells.{cell, zeroCell, row, cellAt}
+use Rattle.cells.proofs.Zipped.{length-zip, getD-zip, markers-zip, segments-zip, counts-zip}
 use Rattle.forecast.specs.declared.Forecast.{Forecast}
-use Rattle.forecast.specs.Cells.{cell, zeroCell, cells, usedCells, row, forecastOf, cellAt}
+use Rattle.forecast.specs.Cells.{cells, usedCells, forecastOf}
 use Rattle.forecast.specs.Tidy.{Tidy, Became, Roomy, CellOf}
 use Rattle.forecast.proofs.Laws.{forecastOf-used, forecastOf-cells, used-forecastOf}
-use Rattle.forecast.proofs.Rows.{length-zip, getD-zip, markers-zip, segments-zip, counts-zip, row-at, row-long}
+use Rattle.forecast.proofs.Rows.{row-at, row-long}
 
 -- THE ONE TIDY FORECAST with given cells
 -- it is tidy, with those cells

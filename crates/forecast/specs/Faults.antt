@@ -10,11 +10,12 @@ use Rattle.lists.specs.Lists.{anyOf}
 use Rattle.lists.specs.Search.{first}
 use Rattle.slots.specs.Segments.{Segments, keys}
 use Rattle.slots.specs.Keys.{member, segmentOf}
-use Rattle.forecast.specs.declared.Cell.{Cell}
+use Rattle.cells.specs.declared.Cell.{Cell}
+use Rattle.cells.specs.Cells.{zeroCell, marks}
 use Rattle.forecast.specs.declared.Forecast.{Forecast}
 use Rattle.forecast.specs.declared.Fault.{Fault}
 use Rattle.forecast.specs.declared.Fault.the-variants.{Sound, TooMany, NotZero, Count, Repeated, NotLive, Misplaced}
-use Rattle.forecast.specs.Cells.{zeroCell, cells, marks}
+use Rattle.forecast.specs.Cells.{cells}
 
 abbrev pub isZero : Cell → Bool
 isZero c = eqb (c .marker) 0 && eqb (c .segment) 0 && eqb (c .count) 0

@@ -7,9 +7,10 @@ use lib.ListN.{length, getD}
 use Rattle.lists.specs.Lists.{All}
 use Rattle.slots.specs.Segments.{Segments, keys}
 use Rattle.slots.specs.Keys.{segmentOf}
-use Rattle.forecast.specs.declared.Cell.{Cell}
+use Rattle.cells.specs.declared.Cell.{Cell}
+use Rattle.cells.specs.Cells.{zeroCell, markersOf}
 use Rattle.forecast.specs.declared.Forecast.{Forecast}
-use Rattle.forecast.specs.Cells.{zeroCell, cells, usedCells, forecastOf, markersOf}
+use Rattle.forecast.specs.Cells.{cells, usedCells, forecastOf}
 
 -- at most 12 cells in use, and the others all zeros
 pub record Tidy (F : Forecast) : Type 0 where

@@ -5,17 +5,11 @@ ghost use Prim.Native.Nat.{_+_, _≤_, _<_};
 ghost use lib.ListN.{length};
 ghost use Rattle.slots.specs.Segments.{Segments};
 ghost use Rattle.slots.specs.Keys.{Listed, segmentOf};
-ghost use Rattle.seeking.specs.Bounds.{Bounded};
-ghost use Rattle.forecast.specs.Cells.{usedCells, weight};
-ghost use Rattle.forecast.specs.Steps.{noted, dropped, retargeted};
+ghost use Rattle.cells.specs.Cells.{weight};
+ghost use Rattle.cells.specs.Steps.{noted, dropped, retargeted};
+ghost use Rattle.seats.specs.Bounds.{Bounded};
+ghost use Rattle.forecast.specs.Cells.{usedCells};
 ghost use Rattle.forecast.specs.Tidy.{Tidy, Became, Marker, Live, Outside, Elsewhere};
-
-// A marker is a live key, or 0 for the front of the list.
-pub struct Cell {
-    pub marker: u64,
-    pub segment: usize,
-    pub count: usize,
-}
 
 // Room for 12 cells, with the number used: a row of markers, one of segments and one of counts.
 #[repr(C)]
@@ -163,5 +157,5 @@ fn aim(segment: u8, marker: u64, bounds: &[u64], first: usize, n: usize) -> u8
     if first + n <= s {
         return segment;
     }
-    seeking::finding::seat_of(bounds, marker) as u8
+    seats::seat_of(bounds, marker) as u8
 }

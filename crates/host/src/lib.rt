@@ -5,7 +5,3 @@ pub mod running;
 
 // What a call answers where the forecast, the totals or the reply has the wrong size.
 pub const MISFIT: u64 = 100;
-// The words of a forecast, and of the totals.
-pub const FORECAST: usize = 37;
-
-pub const TOTALS: usize = 4;

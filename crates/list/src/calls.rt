@@ -1,10 +1,10 @@
 // The public calls that change no list: make, check, lookup and scan. They ask nothing of what they are lent.
-ghost use Rattle.list.specs.Admits.{MakeAdmits, CheckAdmits, LookupAdmits, ScanAdmits};
-use crate::CheckAnswer;
-use crate::LookupAnswer;
-use crate::MakeAnswer;
-use crate::MakeReply;
-use crate::ScanAnswer;
+ghost use Rattle.answers.specs.Admits.{MakeAdmits, CheckAdmits, LookupAdmits, ScanAdmits};
+use answers::CheckAnswer;
+use answers::LookupAnswer;
+use answers::MakeAnswer;
+use answers::MakeReply;
+use answers::ScanAnswer;
 use forecast::Forecast;
 use rules::Refusal;
 use rules::Verdict;
@@ -14,7 +14,7 @@ pub fn make(list: &mut [u64]) -> MakeReply
     ensures { λ r. ⌜ MakeAdmits (now (list .entry)) r (now (list .exit)) ⌝ }
 {
     let forecast = Forecast::empty();
-    if slots::heights::height_of(list.len()) == 0 {
+    if places::heights::height_of(list.len()) == 0 {
         return MakeReply {
             forecast,
             answer: MakeAnswer::Refused(Refusal::WrongLength),
@@ -49,14 +49,7 @@ pub fn lookup(list: &[u64], key: u64) -> LookupAnswer
     if let Verdict::Refused(refusal) = verdict {
         return LookupAnswer::Refused(refusal);
     }
-    if key == 0 {
-        return LookupAnswer::Refused(Refusal::KeyZero);
-    }
-    let place = slots::finding::locate(list, key);
-    if place.present {
-        return LookupAnswer::Present(place.segment);
-    }
-    LookupAnswer::Absent
+    looks::look_up(list, key)
 }
 
 // The live keys above `from`, rising, into `output` until it is full or they end.
@@ -68,14 +61,5 @@ pub fn scan(list: &[u64], from: u64, output: &mut [u64]) -> ScanAnswer
     if let Verdict::Refused(refusal) = verdict {
         return ScanAnswer::Refused(refusal);
     }
-    let place = slots::finding::locate(list, from);
-    let mut at = place.at;
-    if place.present {
-        at += 1;
-    }
-    let written = scans::write_keys(list, &counts, place.segment, at, output);
-    if written.more {
-        return ScanAnswer::More(written.keys);
-    }
-    ScanAnswer::Ended(written.keys)
+    looks::scan_from(list, &counts, from, output)
 }

@@ -1,9 +1,9 @@
 // The public calls that change a list: insert and delete. They ask nothing of what they are lent.
-ghost use Rattle.list.specs.Admits.{InsertAdmits, DeleteAdmits};
-use crate::DeleteAnswer;
-use crate::DeleteReply;
-use crate::InsertAnswer;
-use crate::InsertReply;
+ghost use Rattle.answers.specs.Admits.{InsertAdmits, DeleteAdmits};
+use answers::DeleteAnswer;
+use answers::DeleteReply;
+use answers::InsertAnswer;
+use answers::InsertReply;
 use forecast::Forecast;
 use rules::Verdict;
 

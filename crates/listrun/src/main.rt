@@ -45,10 +45,10 @@ fn main() {
     let reply = done.reply;
     let tally = reply.tally;
     let stop = reply.stop;
-    let a = slots::counting::count_keys(&slots[0..64]);
-    let b = slots::counting::count_keys(&slots[64..128]);
-    let c = slots::counting::count_keys(&slots[128..192]);
-    let d = slots::counting::count_keys(&slots[192..256]);
+    let a = places::counting::count_keys(&slots[0..64]);
+    let b = places::counting::count_keys(&slots[64..128]);
+    let c = places::counting::count_keys(&slots[128..192]);
+    let d = places::counting::count_keys(&slots[192..256]);
     counts(
         (a + b + c + d) as u64,
         tally.moves,

@@ -48,10 +48,6 @@ pub double-not : (a : Bool) → T (not (not a)) → T a
 double-not true t = tt
 double-not false t = t
 
-pub not-not : (a : Bool) → T a → T (not (not a))
-not-not true t = tt
-not-not false t = t
-
 pub is-true : (b : Bool) → T b → b ≡ true
 is-true true t = refl
 is-true false t = absurd t

@@ -22,9 +22,10 @@ use Rattle.lists.proofs.Inserted.{all-inserted, length-inserted}
 use Rattle.slots.specs.Keys.{Rising, member, below}
 use Rattle.slots.proofs.Keys.{member→mem, not-member}
 use Rattle.slots.proofs.Halving.{place-of}
-use Rattle.forecast.specs.declared.Cell.{Cell}
+use Rattle.cells.specs.declared.Cell.{Cell}
+use Rattle.cells.specs.Cells.{zeroCell, cellAt, weight}
 use Rattle.forecast.specs.declared.Forecast.{Forecast}
-use Rattle.forecast.specs.Cells.{cells, zeroCell, usedCells, cellAt, weight}
+use Rattle.forecast.specs.Cells.{cells, usedCells}
 use Rattle.forecast.specs.Tidy.{Tidy, Fitting}
 use Rattle.forecast.proofs.Stepping.{cells-used, cell-is}
 use Rattle.stretches.specs.Marks.{weightBelow, Marked}

@@ -9,9 +9,9 @@ use Rattle.lists.specs.Lists.{All}
 use Rattle.slots.specs.Segments.{keys}
 use Rattle.slots.specs.Keys.{member, predecessor, segmentOf}
 use Rattle.slots.specs.Shown.{Shows, CountsOf}
+use Rattle.cells.specs.Steps.{noted, dropped}
 use Rattle.forecast.specs.declared.Forecast.{Forecast}
 use Rattle.forecast.specs.Cells.{usedCells}
-use Rattle.forecast.specs.Steps.{noted, dropped}
 use Rattle.rules.specs.Shares.{Shares, cellsOf}
 use Rattle.rules.specs.Placing.{Room, home}
 use Rattle.rules.proofs.Requests.StaysGood.{Good}

@@ -20,7 +20,7 @@ use Rattle.slots.proofs.Within.{keys-within, rising-within, key-within, below-w
 use Rattle.slots.proofs.ByPlace.{cut-new, put-old}
 use Rattle.slots.proofs.Rising.{put-rising, cut-rising, put-mem, cut-mem, mem-put, mem-cut}
 use Rattle.slots.proofs.Tallies.{shown-within, shown-part, sum-within}
-use Rattle.forecast.specs.declared.Cell.{Cell}
+use Rattle.cells.specs.declared.Cell.{Cell}
 use Rattle.marks.specs.declared.Window.{Window}
 use Rattle.marks.specs.Marking.{part, after, Asked, Aims}
 

@@ -11,7 +11,7 @@ use Rattle.lists.specs.Search.{placeBy}
 use Rattle.slots.specs.Segments.{Segments, keys}
 use Rattle.slots.specs.Keys.{member, below, changed, segmentOf}
 use Rattle.slots.specs.Shown.{Shows, CountsOf}
-use Rattle.forecast.specs.declared.Cell.{Cell}
+use Rattle.cells.specs.declared.Cell.{Cell}
 use Rattle.forecast.specs.declared.Forecast.{Forecast}
 use Rattle.forecast.specs.Cells.{usedCells}
 use Rattle.forecast.specs.Tidy.{Marker, Fitting}

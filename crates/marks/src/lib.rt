@@ -1,19 +1,20 @@
 // The marks of a window, found in the list as it stands before a request: the places that the keys that weigh will have, and their weights.
 ghost use mathlib.Core.Path.{_≡_};
 ghost use mathlib.Core.List.{[], map, List·Memᴰ as Mem};
-ghost use Prim.Native.Nat.{ℕ, _+_, _-_, _*_, _≤_, _<_};
+ghost use Prim.Native.Nat.{ℕ, _+_, _*_, _≤_, _<_};
 ghost use lib.ListN.{length, take, getD};
 ghost use Rattle.lists.specs.Lists.{insertAt};
 ghost use Rattle.slots.specs.Segments.{Segments};
 ghost use Rattle.slots.specs.Keys.{below};
-ghost use Rattle.forecast.specs.Cells.{usedCells, weight};
+ghost use Rattle.cells.specs.Cells.{weight};
+ghost use Rattle.forecast.specs.Cells.{usedCells};
 ghost use Rattle.forecast.specs.Tidy.{Tidy};
 ghost use Rattle.stretches.specs.Marks.{Marked};
 ghost use Rattle.marks.specs.Marking.{after, Asked, Aims, Marking, OneMarked};
-use forecast::Cell;
+use cells::Cell;
 use forecast::Forecast;
-use slots::counting::keys_in;
-use slots::finding::position;
+use places::counting::keys_in;
+use places::finding::position;
 use stretches::passing::mark_from;
 
 // A window of segments, and the request in it: the first of them and how many, the key, and whether it is put in or taken out.

@@ -1,16 +1,14 @@
--- A gap opened and closed in a part: one movement and one store make it, and what it does to the keys of one segment.
+-- A gap opened and closed in a part: one movement and one store make it.
 use mathlib.Core.Path.{_≡_, sym, ap, _∙_}
 use Prim.Native.Nat.{ℕ, suc, _+_, _-_, _≤_, _<_}
 use native.Mathlib.Nat.{add-sub-of-le}
 use native.Mathlib.Numerals.{add-one}
 use native.Mathlib.Omega.{arith}
 use mathlib.Core.List.{List, _∷_, _++_, append-assoc}
-use lib.ListN.{length, getD, set, take, drop, replicate, length-append, length-take, length-drop}
+use lib.ListN.{length, getD, set, take, drop, length-append, length-take, length-drop}
 use lib.Seq.{length-paste-head, drop-cons, set-at, drop-at, length-take-le, set-split, take-append-le, take-take, take-add}
-use Rattle.lists.specs.Lists.{insertAt, without, padded}
-use Rattle.lists.proofs.Fill.{length-without, take-padded-all, drop-padded}
+use Rattle.lists.specs.Lists.{insertAt, without}
 use Rattle.moves.specs.Moves.{moved, opened, closed}
-use Rattle.moves.specs.Layout.{pad}
 
 module _ {A : Type 0} where
   pub take-drop : (a n : ℕ) (l : List A) → a ≤ n → a ≤ length l → take (n - a) (drop a l) ≡ drop a (take n l)
@@ -58,22 +56,3 @@ module _ {A : Type 0} where
   pub length-insertAt : (at : ℕ) (v : A) (xs : List A) → at ≤ length xs → length (insertAt at v xs) ≡ length xs + 1
   unfolding insertAt
   length-insertAt at v xs h = simp (length-append, length-take, length-drop) (omega arith)
-
-  -- in the slots of one segment
-  pub opened-pad : (z : A) (xs : List A) (at : ℕ) (v : A) → at ≤ length xs → length xs < 64 → opened (length xs) at v (pad z xs) ≡ pad z (insertAt at v xs)
-  unfolding opened padded
-  opened-pad z xs at v h k =
-      let n : ℕ = length xs in
-      let e : 64 - (n + 1) ≡ 64 - length (insertAt at v xs) = omega (arith, length-insertAt at v xs h) in
-      ap (λ (t : List A). insertAt at v t ++ drop (n + 1) (pad z xs)) (take-padded-all 64 z xs)
-      ∙ ap (λ (t : List A). insertAt at v xs ++ t) (drop-padded 64 z xs (n + 1) (omega arith))
-      ∙ ap (λ (m : ℕ). insertAt at v xs ++ replicate m z) e
-
-  pub closed-pad : (z : A) (xs : List A) (at : ℕ) → at < length xs → length xs ≤ 64 → closed z (length xs) at (pad z xs) ≡ pad z (without at xs)
-  unfolding closed padded
-  closed-pad z xs at h k =
-      let n : ℕ = length xs in
-      let e : suc (64 - n) ≡ 64 - length (without at xs) = omega (arith, length-without at xs h) in
-      ap (λ (t : List A). without at t ++ z ∷ drop n (pad z xs)) (take-padded-all 64 z xs)
-      ∙ ap (λ (t : List A). without at xs ++ z ∷ t) (drop-padded 64 z xs n (omega arith))
-      ∙ ap (λ (m : ℕ). without at xs ++ replicate m z) e

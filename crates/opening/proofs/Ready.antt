@@ -5,8 +5,8 @@ use Prim.Native.Nat.{ℕ}
 use native.Mathlib.Omega.{arith}
 use Rattle.slots.specs.Segments.{Segments, segmentsOf}
 use Rattle.slots.specs.Shown.{Shows}
-use Rattle.seeking.specs.Bounds.{boundsOf, Indexed}
-use Rattle.seeking.proofs.Kept.{indexed-start}
+use Rattle.seats.specs.Bounds.{boundsOf, Indexed}
+use Rattle.bounding.proofs.Kept.{indexed-start}
 use Rattle.forecast.specs.declared.Forecast.{Forecast}
 use Rattle.rules.specs.declared.Verdict.the-variants.{Accepted}
 use Rattle.rules.specs.Refusals.{verdictNumber}

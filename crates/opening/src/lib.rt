@@ -24,7 +24,7 @@ pub fn work_lent(list: &mut [u64], forecast: Forecast, requests: &[u8], allowanc
     let shape = listing.shape;
     let keys = listing.keys;
     let mut bounds: [u64; 64] = [18446744073709551615; 64];
-    seeking::bounding::bound(list, &mut bounds);
+    bounding::bound(list, &mut bounds);
     let mut plan: [usize; 64] = [0; 64];
     steps::working::work(
         list,

@@ -1,8 +1,6 @@
 -- What a split and a plan ask for: numbers within limits.
 use Prim.Native.Nat.{ℕ, _*_, _^_, _≤_, _<_}
 use mathlib.Core.Path.{_≡_}
-use mathlib.Core.List.{List}
-use lib.ListN.{length, getD}
 use Rattle.rules.specs.Shares.{Shares, Lawful}
 use Rattle.rules.specs.Readings.{Limits}
 

@@ -1,4 +1,5 @@
 -- Demand 1: rows and their tests, in order, and what a refused call leaves.
+pub mod CheckCases
 pub mod Refused
 pub mod RowsInOrder
 pub mod Rows

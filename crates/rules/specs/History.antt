@@ -8,7 +8,7 @@ use Rattle.lists.specs.Choice.{if_then_else_}
 use Rattle.slots.specs.Segments.{Segments}
 use Rattle.slots.specs.Windows.{start}
 use Rattle.slots.specs.Keys.{segmentOf}
-use Rattle.forecast.specs.declared.Cell.{Cell}
+use Rattle.cells.specs.declared.Cell.{Cell}
 use Rattle.rules.specs.declared.Request.{Request}
 use Rattle.rules.specs.declared.Request.the-variants.{Insert, Delete, Bad}
 use Rattle.rules.specs.Shares.{Shares}

@@ -11,9 +11,9 @@ use Rattle.lists.specs.Search.{first}
 use Rattle.slots.specs.Segments.{Segments, keys}
 use Rattle.slots.specs.Windows.{start, window, count}
 use Rattle.slots.specs.Keys.{member, above, put, cut, predecessor, segmentOf}
-use Rattle.forecast.specs.declared.Cell.{Cell}
-use Rattle.forecast.specs.Cells.{weight}
-use Rattle.forecast.specs.Steps.{noted, dropped, retargeted}
+use Rattle.cells.specs.declared.Cell.{Cell}
+use Rattle.cells.specs.Cells.{weight}
+use Rattle.cells.specs.Steps.{noted, dropped, retargeted}
 use Rattle.rules.specs.declared.Request.{Request}
 use Rattle.rules.specs.declared.Request.the-variants.{Insert, Delete, Bad}
 use Rattle.rules.specs.Shares.{Shares, within, capacity, sparseBelow, cellsOf}

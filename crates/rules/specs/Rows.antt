@@ -6,9 +6,10 @@ use mathlib.Core.List.{List, [], _∷_, _++_}
 use lib.ListN.{length, drop, getD}
 use Rattle.slots.specs.Segments.{live}
 use Rattle.slots.specs.Orders.{slotAt}
-use Rattle.forecast.specs.declared.Cell.{Cell}
+use Rattle.cells.specs.declared.Cell.{Cell}
+use Rattle.cells.specs.Cells.{zeroCell}
 use Rattle.forecast.specs.declared.Forecast.{Forecast}
-use Rattle.forecast.specs.Cells.{zeroCell, cells}
+use Rattle.forecast.specs.Cells.{cells}
 use Rattle.rules.specs.Runs.{requestOf}
 use Rattle.rules.specs.Calls.{request, Worked}
 

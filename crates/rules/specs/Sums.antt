@@ -4,8 +4,8 @@ use mathlib.Core.Path.{_≡_}
 use mathlib.Core.List.{List, [], _∷_, _++_, map, List·Memᴰ as Mem}
 use lib.ListN.{length, replicate}
 use Rattle.slots.specs.Segments.{Segments}
-use Rattle.forecast.specs.declared.Cell.{Cell}
-use Rattle.forecast.specs.Cells.{cell, weight}
+use Rattle.cells.specs.declared.Cell.{Cell}
+use Rattle.cells.specs.Cells.{cell, weight}
 use Rattle.rules.specs.declared.Request.{Request}
 use Rattle.rules.specs.declared.Request.the-variants.{Insert, Delete}
 use Rattle.rules.specs.Shares.{shares}

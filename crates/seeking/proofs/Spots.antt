@@ -21,10 +21,10 @@ use Rattle.slots.proofs.Keys.{in-part, rising-part}
 use Rattle.slots.proofs.Render.{length-render, slot-render}
 use Rattle.slots.proofs.Halving.{rising-at, below-place, past-below, found, not-found}
 use Rattle.slots.proofs.Seats.{seat-between, seat-member, pred-at}
-use Rattle.seeking.specs.Bounds.{top, lessOne, Indexed}
-use Rattle.seeking.specs.Halves.{keyUpTo, halved, Last}
-use Rattle.seeking.specs.Spots.{placeAt, beforeAt, Spotted}
-use Rattle.seeking.proofs.Halves.{halved-last}
+use Rattle.seats.specs.Bounds.{top, Indexed}
+use Rattle.seats.specs.Halves.{halved, Last}
+use Rattle.seeking.specs.Spots.{lessOne, keyUpTo, placeAt, beforeAt, Spotted}
+use Rattle.seats.proofs.Halves.{halved-last}
 
 -- A RISING LIST
 module _ (y : ℕ) (xs : List ℕ) (rises : Rising xs) where

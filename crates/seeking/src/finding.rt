@@ -1,13 +1,11 @@
-// A key's segment and its place in it, each in six steps.
+// A key's place in its segment, in six steps, and where a search for it ends.
 ghost use mathlib.Core.Path.{_≡_};
 ghost use Prim.Native.Nat.{_+_, _*_, _≤_, _<_};
 ghost use lib.ListN.{length};
-ghost use Rattle.slots.specs.Segments.{Segments, segmentsOf};
-ghost use Rattle.slots.specs.Keys.{Listed};
-ghost use Rattle.slots.specs.Shown.{seat};
-ghost use Rattle.seeking.specs.Bounds.{lessOne, Bounded, Indexed};
-ghost use Rattle.seeking.specs.Spots.{placeAt, beforeAt, Spotted};
-ghost use Rattle.seeking.specs.Halves.{climb, halved, boundBelow, keyUpTo};
+ghost use Rattle.slots.specs.Segments.{segmentsOf};
+ghost use Rattle.seats.specs.Bounds.{Indexed};
+ghost use Rattle.seats.specs.Halves.{climb, halved};
+ghost use Rattle.seeking.specs.Spots.{lessOne, keyUpTo, placeAt, beforeAt, Spotted};
 use crate::Spot;
 use slots::Place;
 
@@ -16,31 +14,6 @@ fn less_one(x: u64) -> u64
     ensures { λ r. ⌜ r ≡ lessOne x ⌝ }
 {
     std::num::wrapping_sub_u64(x, 1)
-}
-
-// One step up in the bounds, where the one there is below `key`.
-fn seat_step(bounds: &[u64], s: usize, step: usize, key: u64) -> usize
-    requires { ⌜ s + step < length (now bounds) ⌝ }
-    ensures { λ r. ⌜ (r ≡ climb (boundBelow (now (bounds .entry)) key) s step) × (r ≤ s + step) ⌝ }
-{
-    if bounds[s + step] < key {
-        return s + step;
-    }
-    s
-}
-
-// The segment where a search for `key` ends: the last whose bound is below it, or the first.
-pub fn seat_of(bounds: &[u64], key: u64) -> usize
-    requires { ⌜ length (now bounds) ≡ 64 ⌝ }
-    ensures range { λ r. ⌜ r < 64 ⌝ }
-    ensures place { λ r. ⌜ ((ss : Segments) → Listed ss → length ss ≤ 64 → Bounded 1 ss (now (bounds .entry)) → r ≡ seat key ss) ⌝ }
-{
-    let a = seat_step(bounds, 0, 32, key);
-    let b = seat_step(bounds, a, 16, key);
-    let c = seat_step(bounds, b, 8, key);
-    let d = seat_step(bounds, c, 4, key);
-    let e = seat_step(bounds, d, 2, key);
-    seat_step(bounds, e, 1, key)
 }
 
 // One step up in a segment's slots, where the one there holds a key up to `key`.
@@ -95,7 +68,7 @@ pub fn spot(list: &[u64], bounds: &[u64], counts: &[usize], key: u64) -> Spot
     requires { ⌜ Indexed (segmentsOf (now list)) (now list) (now bounds) (now counts) × (0 < key) ⌝ }
     ensures { λ r. ⌜ Spotted key (segmentsOf (now (list .entry))) (now (list .entry)) r ⌝ }
 {
-    let segment = seat_of(bounds, key);
+    let segment = seats::seat_of(bounds, key);
     let held = counts[segment];
     let a = 64 * segment;
     let rest = place_in(list, a, key);

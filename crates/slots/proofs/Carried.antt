@@ -1,18 +1,15 @@
 -- What is done to the slots of a segment, or of a window of segments, is done to those segments: the flat equations carried over.
 use mathlib.Core.Path.{_≡_, refl, sym, ap, ap₂, _∙_}
-use mathlib.Core.List.{List, [], _∷_, _++_, map, append-assoc, List·Memᴰ·head as here, List·Memᴰ·tail as there}
+use mathlib.Core.List.{List, [], _∷_, _++_, append-assoc, List·Memᴰ·head as here, List·Memᴰ·tail as there}
 use Prim.Native.Nat.{ℕ, zero, suc, _+_, _-_, _*_, _≤_, _<_}
 use native.Mathlib.Omega.{arith}
 use lib.ListN.{length, take, drop, getD, set}
-use lib.Seq.{take-nil, drop-nil, take-at, drop-at, take-append-le, take-append-add, drop-append-add, drop-cons, set-split}
+use lib.Seq.{take-nil, drop-nil, take-at, take-append-add, drop-append-add, drop-cons, set-split}
 use borrow.Rule.Slice.PartMut.{putMid, post-is}
-use Rattle.lists.specs.Lists.{All, joined, splice, insertAt, without, total}
+use Rattle.lists.specs.Lists.{All, splice}
 use Rattle.lists.proofs.Members.{mem-take, mem-drop, at-mem}
-use Rattle.lists.proofs.Joined.{length-joined}
-use Rattle.lists.proofs.Fill.{length-padded, take-padded-all}
+use Rattle.lists.proofs.Fill.{length-padded}
 use Rattle.slots.specs.Segments.{pad, render}
-use Rattle.moves.specs.Moves.{opened, closed, gather, Packed}
-use Rattle.moves.proofs.Gaps.{opened-pad, closed-pad}
 
 -- A PART LENT AND BACK
 -- f done to the part from a to e
@@ -112,49 +109,3 @@ module _ {A : Type 0} (z : A) where
       ap (λ (t : List A). take (64 * s) (render z ss) ++ (t ++ drop (64 * s + 64) (render z ss)))
       (ap f (ap (λ (n : ℕ). take n (drop (64 * s) (render z ss))) e₁ ∙ segment-part ss s fits h) ∙ e)
       ∙ segment-back ss s y fits h
-
-  -- ONE KEY IN ITS SEGMENT
-  module _ (ss : List (List A)) (s n at : ℕ) (fits : All (λ x. length x ≤ 64) ss) (h : s < length ss) (c : n ≡ length (getD ss s [])) where
-    -- put in
-    pub opened-in : (v : A) → at ≤ n → n < 64 → inPart (64 * s) (64 * s + 64) (opened n at v) (render z ss) ≡ render z (set ss s (insertAt at v (getD ss s [])))
-    opened-in v p q =
-        in-segment ss s (opened n at v) (insertAt at v (getD ss s [])) fits h
-        (ap (λ (m : ℕ). opened m at v (pad z (getD ss s []))) c ∙ opened-pad z (getD ss s []) at v (omega arith) (omega arith))
-
-    -- taken out
-    pub closed-in : at < n → inPart (64 * s) (64 * s + 64) (closed z n at) (render z ss) ≡ render z (set ss s (without at (getD ss s [])))
-    closed-in p =
-        in-segment ss s (closed z n at) (without at (getD ss s [])) fits h
-        (ap (λ (m : ℕ). closed z m at (pad z (getD ss s []))) c ∙ closed-pad z (getD ss s []) at (omega arith) (fits (getD ss s []) (at-mem ss s [] h)))
-
-    -- the same, as the lent part comes back
-    module _ (a e : ℕ) (l last : List A) (w : l ≡ render z ss) (start : a ≡ 64 * s) (end : e ≡ a + 64) where
-      to-segment : (f : List A → List A) → last ≡ f (take (e - a) (drop a l)) → putMid a (e - a) l last ≡ inPart (64 * s) (64 * s + 64) f (render z ss)
-      to-segment f r =
-          let k : e ≡ 64 * s + 64 = omega arith in
-          put-part a e f l last (omega arith) r ∙ ap (inPart a e f) w ∙ ap₂ (λ (a e : ℕ). inPart a e f (render z ss)) start k
-
-      pub opened-put : (v : A) → at ≤ n → n < 64 → last ≡ opened n at v (take (e - a) (drop a l)) → putMid a (e - a) l last ≡ render z (set ss s (insertAt at v (getD ss s [])))
-      opened-put v p q r = to-segment (opened n at v) r ∙ opened-in v p q
-
-      pub closed-put : at < n → last ≡ closed z n at (take (e - a) (drop a l)) → putMid a (e - a) l last ≡ render z (set ss s (without at (getD ss s [])))
-      closed-put p r = to-segment (closed z n at) r ∙ closed-in p
-
-  -- THE KEYS OF A WINDOW
-  -- gathered, they are the keys of its segments
-  pub gather-window : (ws : List (List A)) → All (λ x. length x ≤ 64) ws → gather (map length ws) (render z ws) ≡ joined ws
-  unfolding gather render
-  gather-window [] fits = refl
-  gather-window (x ∷ xs) fits =
-      let lx : length (pad z x) ≡ 64 = length-padded 64 z x (fits x (here refl)) in
-      ap₂ {C = List A} _++_
-      (take-append-le (length x) (pad z x) (render z xs) (omega (arith, fits x (here refl))) ∙ take-padded-all 64 z x)
-      (ap (gather (map length xs)) (drop-at (pad z x) (render z xs) 64 lx) ∙ gather-window xs (λ y m. fits y (there m)))
-
-  -- so they stand in front when the window is packed
-  pub packed-keys : (ws : List (List A)) (cs : List ℕ) (l l′ : List A) (r : ℕ) → All (λ x. length x ≤ 64) ws → cs ≡ map length ws → l ≡ render z ws → Packed cs l r l′
-      → (r ≡ length (joined ws)) × (take r l′ ≡ joined ws)
-  packed-keys ws cs l l′ r fits c w packed =
-      let g : gather cs l ≡ joined ws = ap₂ gather c w ∙ gather-window ws fits in
-      let k : r ≡ length (joined ws) = packed .many ∙ ap total c ∙ sym (length-joined ws) in
-      (k, ap (take r) (packed .slots ∙ ap (λ (t : List A). t ++ drop r l) g) ∙ take-at (joined ws) (drop r l) r (sym k))

@@ -16,3 +16,4 @@ pub mod Seats
 pub mod Heads
 pub mod Tallies
 pub mod Standing
+pub mod Tables

@@ -1,3 +1,4 @@
+pub mod Layout
 pub mod Segments
 pub mod Windows
 pub mod Keys

@@ -8,8 +8,8 @@ use lib.ListN.{length}
 use Rattle.lists.specs.Lists.{joined, only, parts}
 use Rattle.lists.specs.Search.{first}
 -- A segment is 64 slots: the keys stand first, gaps follow.
-pub use Rattle.moves.specs.Layout.{pad}
-unfoldable pub use Rattle.moves.specs.Layout.{render}
+pub use Rattle.slots.specs.Layout.{pad}
+unfoldable pub use Rattle.slots.specs.Layout.{render}
 
 -- A key is a number from 1 up. 0 marks a gap.
 abbrev pub isKey : ℕ → Bool

@@ -1,7 +1,4 @@
-// The list a classroom lends: its height, counting and search of its slots, and what a reading of them finds.
-pub mod counting;
-pub mod finding;
-pub mod heights;
+// The list a classroom lends: its slots, segments and windows, and what a reading and a search find, in specs/ and proofs/. No code.
 
 // What a reading of the slots finds: the order is kept, or the first slot that breaks it, and how.
 pub enum Order {

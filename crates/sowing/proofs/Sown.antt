@@ -18,9 +18,9 @@ use Rattle.slots.specs.Segments.{Segments, keys, segmentsOf, render}
 use Rattle.slots.specs.Keys.{changed}
 use Rattle.slots.proofs.Keys.{member→mem}
 use Rattle.slots.proofs.Render.{length-render}
-use Rattle.slots.proofs.Carried.{packed-keys}
 use Rattle.slots.proofs.ByPlace.{put-at, cut-at, place-old}
 use Rattle.sowing.specs.Sown.{Planted}
+use Rattle.sowing.proofs.Gathered.{packed-keys}
 
 module _ {w counts plan : List ℕ} {p y : ℕ} {grows : Bool} (d : Planted w counts plan p y grows) where
   abbrev ss : Segments

@@ -7,7 +7,7 @@ use lib.ListN.{length, getD, take, drop, replicate, length-append, length-take, 
 use lib.Seq.{paste, drop-cons, take-at, drop-at, length-take-le, take-append-le, take-take, drop-drop, drop-length, take-all}
 use Rattle.lists.specs.Lists.{total, padded, deal}
 use Rattle.moves.specs.Moves.{cleared}
-use Rattle.moves.specs.Layout.{pad, render}
+use Rattle.slots.specs.Layout.{pad, render}
 use Rattle.moves.proofs.Fronts.{drop-past, part-alike}
 use Rattle.spreads.proofs.Packing.{total-pred}
 

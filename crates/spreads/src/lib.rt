@@ -4,7 +4,7 @@ ghost use Prim.Native.Nat.{ℕ, _+_, _*_, _-_, _≤_, _<_};
 ghost use lib.ListN.{length, getD, take, drop};
 ghost use lib.Seq.{paste};
 ghost use Rattle.lists.specs.Lists.{total, deal, insertAt};
-ghost use Rattle.moves.specs.Layout.{render};
+ghost use Rattle.slots.specs.Layout.{render};
 ghost use Rattle.moves.specs.Moves.{Packed};
 
 // The keys of all segments moved to the front of the window, in place; the answer is how many.

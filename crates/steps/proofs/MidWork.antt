@@ -31,7 +31,7 @@ use Rattle.rules.proofs.Running.Records.{records-nil, records-cons, short-bad, 
 use Rattle.rules.proofs.Running.RequestsWorked.{work-end, work-bad, work-over, work-on}
 use Rattle.rules.proofs.Requests.Checked.{slots-shown, forecast-shown}
 use Rattle.shares.specs.declared.Shape.{Shape}
-use Rattle.seeking.specs.Bounds.{Indexed}
+use Rattle.seats.specs.Bounds.{Indexed}
 use Rattle.aims.specs.declared.Aim.{Aim}
 use Rattle.aims.specs.Aims.{Stands, Aimed}
 use Rattle.aims.proofs.Standing.{keys-stand}
@@ -139,9 +139,6 @@ abbrev pub backAt : Now → Verdict → Worked
 backAt N v = record { forecast = N .forecast; tally = N .tally; stop = v; last = N .last; keys = N .keys }
 
 module _ {L : Lent} {N : Now} (g : Going L N) where
-  abbrev place : ℕ
-  place = N .tally .place
-
   -- where the work left is a stop, the run ends with what there is
   ended : (v : Verdict)
       → work (of L) (L .allowance) (recordsOf (drop (N .tally .place) (L .bytes))) (room N) (N .tally) ≡ stopped (verdictNumber v) (room N) (N .tally)
@@ -189,9 +186,6 @@ module _ {L : Lent} {N : Now} {r : Aim} (a : AtRecord L N r) where
 
   abbrev t : Tally
   t = N .tally
-
-  abbrev o : Outcome
-  o = outcome (shares (L .shape .height)) q (roomOf (N .slots) (N .forecast))
 
   pub turning : Turning (N .slots) (N .forecast) (N .bounds) (N .counts) (L .shape) (asks L N) (N .keys) r
   turning = record { stands = g .stands; shown = g .shown; index = g .index; aimed = a .aimed }

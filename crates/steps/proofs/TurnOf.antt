@@ -13,7 +13,7 @@ use Rattle.lists.proofs.Tests.{either, eq→eqb}
 use Rattle.slots.specs.Segments.{Segments, keys, live, heightOf}
 use Rattle.slots.specs.Keys.{member}
 use Rattle.slots.proofs.Render.{live-render}
-use Rattle.forecast.specs.declared.Cell.{Cell}
+use Rattle.cells.specs.declared.Cell.{Cell}
 use Rattle.forecast.specs.declared.Forecast.{Forecast}
 use Rattle.forecast.specs.Cells.{usedCells, forecastOf}
 use Rattle.forecast.proofs.Laws.{used-forecastOf}
@@ -30,7 +30,7 @@ use Rattle.rules.proofs.Requests.Checked.{check-render, room-render, height-ren
 use Rattle.rules.proofs.Requests.StaysGood.{Good, good-next}
 use Rattle.rules.proofs.Requests.MoveBound.{length-insert, length-delete}
 use Rattle.shares.specs.declared.Shape.{Shape}
-use Rattle.seeking.specs.Bounds.{Indexed}
+use Rattle.seats.specs.Bounds.{Indexed}
 use Rattle.aims.specs.declared.Aim.{Aim}
 use Rattle.records.specs.Asked.{asked}
 use Rattle.aims.specs.Aims.{Stands, levelFor, levelAt}

@@ -14,7 +14,7 @@ use Rattle.rules.specs.Checks.{sharesOf}
 use Rattle.rules.specs.Calls.{roomOf}
 use Rattle.rules.specs.Shares.{shares}
 use Rattle.shares.specs.declared.Shape.{Shape}
-use Rattle.seeking.specs.Bounds.{Indexed}
+use Rattle.seats.specs.Bounds.{Indexed}
 use Rattle.aims.specs.declared.Aim.{Aim}
 use Rattle.aims.specs.Aims.{Stands, Aimed}
 use Rattle.steps.specs.declared.Worked.{Worked}

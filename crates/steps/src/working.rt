@@ -2,7 +2,7 @@
 ghost use mathlib.Core.Path.{_≡_};
 ghost use lib.ListN.{length};
 ghost use Rattle.slots.specs.Segments.{segmentsOf};
-ghost use Rattle.seeking.specs.Bounds.{Indexed};
+ghost use Rattle.seats.specs.Bounds.{Indexed};
 ghost use Rattle.aims.specs.Aims.{Stands};
 ghost use Rattle.steps.specs.Works.{Ends};
 use crate::Worked;

@@ -14,9 +14,10 @@ use Rattle.slots.specs.Segments.{Segments, keys, segmentsOf}
 use Rattle.slots.specs.Windows.{start, window, count}
 use Rattle.slots.proofs.Windows.{start-le, lt-end, start-fits}
 use Rattle.slots.proofs.Within.{changed-within}
-use Rattle.forecast.specs.declared.Cell.{Cell}
+use Rattle.cells.specs.declared.Cell.{Cell}
+use Rattle.cells.specs.Cells.{weight}
 use Rattle.forecast.specs.declared.Forecast.{Forecast}
-use Rattle.forecast.specs.Cells.{usedCells, weight}
+use Rattle.forecast.specs.Cells.{usedCells}
 use Rattle.rules.specs.Shares.{Shares, Lawful, shares}
 use Rattle.rules.specs.SharingOut.{plan}
 use Rattle.rules.specs.Placing.{frontWeight}

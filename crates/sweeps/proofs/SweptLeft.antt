@@ -23,9 +23,9 @@ use Rattle.slots.proofs.Within.{keys-within, rising-within, key-within, changed
 use Rattle.slots.proofs.Tallies.{counts-within, sum-within}
 use Rattle.slots.proofs.Render.{segments-render}
 use Rattle.slots.proofs.Carried.{window-fits, window-lent, window-put}
-use Rattle.forecast.specs.declared.Cell.{Cell}
+use Rattle.cells.specs.declared.Cell.{Cell}
+use Rattle.cells.specs.Cells.{weight}
 use Rattle.forecast.specs.declared.Forecast.{Forecast}
-use Rattle.forecast.specs.Cells.{weight}
 use Rattle.rules.specs.Shares.{Shares, shares}
 use Rattle.rules.specs.SharingOut.{plan, shareOut}
 use Rattle.rules.specs.Placing.{Room, frontWeight, sweep}
@@ -35,8 +35,8 @@ use Rattle.rules.proofs.Sharing.SharingOut.{length-plan, total-plan}
 use Rattle.rules.proofs.Sweeping.SweptWindow.{splice-set}
 use Rattle.rules.proofs.Requests.StaysGood.{Good, good-next}
 use Rattle.shares.specs.declared.Shape.{Shape}
-use Rattle.seeking.specs.Bounds.{Indexed, Bounded, Near}
-use Rattle.seeking.proofs.Kept.{indexed-swept}
+use Rattle.seats.specs.Bounds.{Indexed, Bounded, Near}
+use Rattle.bounding.proofs.Kept.{indexed-swept}
 use Rattle.sowing.specs.Sown.{Planted}
 use Rattle.aims.specs.declared.Aim.{Aim}
 use Rattle.records.specs.Asked.{asked}
@@ -132,9 +132,6 @@ module _ {slots bounds counts : List ℕ} {F : Forecast} {k : Shape} {r : Aim} (
     part-long = length-take-le n (drop f ss) (omega (arith, ends, length-drop f ss))
 
     -- lent, its slots show its segments
-    abbrev lent : List ℕ
-    lent = take (64 * f + 64 * n - 64 * f) (drop (64 * f) slots)
-
     lent-is : take (64 * f + 64 * n - 64 * f) (drop (64 * f) slots) ≡ render 0 (take n (drop f (segmentsOf slots)))
     lent-is = window-lent 0 ss f n (64 * f) (64 * f + 64 * n) slots (A .index .shows .fits) (A .index .shows .whole) refl (omega arith)
 

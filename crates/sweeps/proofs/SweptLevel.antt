@@ -15,10 +15,10 @@ use Rattle.slots.specs.Windows.{start, window, count}
 use Rattle.slots.specs.Shown.{Shows, CountsOf}
 use Rattle.slots.proofs.Windows.{pow-pos}
 use Rattle.slots.proofs.Keys.{Between, member→mem, mem→member, segment-mem}
-use Rattle.forecast.specs.declared.Cell.{Cell}
+use Rattle.cells.specs.declared.Cell.{Cell}
+use Rattle.cells.specs.Steps.{noted, dropped}
 use Rattle.forecast.specs.declared.Forecast.{Forecast}
 use Rattle.forecast.specs.Cells.{usedCells}
-use Rattle.forecast.specs.Steps.{noted, dropped}
 use Rattle.rules.specs.declared.Request.the-variants.{Insert, Delete}
 use Rattle.rules.specs.Shares.{Shares, shares, cellsOf}
 use Rattle.rules.specs.Placing.{Room, Outcome, home, putIn, cutFrom, chosen, insertLevel, deleteLevel, frontWeight, sweep, settled, insertKey, deleteKey, outcome}

@@ -3,21 +3,22 @@ use Prim.Native.Nat.{ℕ, _^_}
 use mathlib.Core.Path.{_≡_}
 use mathlib.Core.Bool.{Bool, true, false}
 use mathlib.Core.List.{List, map}
-use lib.ListN.{length, take}
+use lib.ListN.{take}
 use Rattle.slots.specs.Segments.{Segments, keys, segmentsOf, render}
 use Rattle.slots.specs.Keys.{predecessor}
 use Rattle.slots.specs.Windows.{window}
-use Rattle.forecast.specs.declared.Cell.{Cell}
+use Rattle.cells.specs.declared.Cell.{Cell}
+use Rattle.cells.specs.Cells.{weight}
+use Rattle.cells.specs.Steps.{noted, dropped}
 use Rattle.forecast.specs.declared.Forecast.{Forecast}
-use Rattle.forecast.specs.Cells.{weight, forecastOf}
-use Rattle.forecast.specs.Steps.{noted, dropped}
+use Rattle.forecast.specs.Cells.{forecastOf}
 use Rattle.forecast.specs.Tidy.{Became}
 use Rattle.rules.specs.Shares.{Shares, shares, cellsOf}
 use Rattle.rules.specs.SharingOut.{plan}
 use Rattle.rules.specs.Placing.{Room, Outcome, home, putIn, cutFrom, frontWeight, outcome}
 use Rattle.rules.specs.Calls.{roomOf}
 use Rattle.shares.specs.declared.Shape.{Shape}
-use Rattle.seeking.specs.Bounds.{Indexed}
+use Rattle.seats.specs.Bounds.{Indexed}
 use Rattle.aims.specs.declared.Aim.{Aim}
 use Rattle.records.specs.Asked.{asked}
 use Rattle.aims.specs.Aims.{Stands, Accepts}

@@ -1,12 +1,13 @@
 // A sweep: its plan, made before anything is written, and the sweep by it.
 ghost use mathlib.Core.Path.{_≡_};
 ghost use mathlib.Core.List.{List};
-ghost use Prim.Native.Nat.{ℕ, _+_, _*_, _^_, _≤_};
+ghost use Prim.Native.Nat.{ℕ, _+_, _*_, _≤_};
 ghost use lib.Dec.{eqb};
-ghost use lib.ListN.{length, take, drop};
+ghost use lib.ListN.{length};
 ghost use Rattle.lists.specs.Choice.{if_then_else_};
 ghost use Rattle.lists.specs.Lists.{splice};
-ghost use Rattle.forecast.specs.Cells.{usedCells, weight};
+ghost use Rattle.cells.specs.Cells.{weight};
+ghost use Rattle.forecast.specs.Cells.{usedCells};
 ghost use Rattle.forecast.specs.Tidy.{Tidy};
 ghost use Rattle.sweeps.specs.Acts.{outcomeOf, Acting, Noted, Planned, Left};
 use aims::Aim;
@@ -90,7 +91,7 @@ pub fn sweep(list: &mut [u64], counts: &mut [usize], bounds: &mut [u64], plan: &
     let first = segment / n * n;
     let a = 64 * first;
     let e = a + 64 * n;
-    let p = slots::counting::keys_in(counts, first, segment) + aim.at;
+    let p = places::counting::keys_in(counts, first, segment) + aim.at;
     sowing::sow(
         &mut list[a..e],
         &counts[first..first + n],
@@ -100,5 +101,5 @@ pub fn sweep(list: &mut [u64], counts: &mut [usize], bounds: &mut [u64], plan: &
         aim.grows,
     );
     keep(counts, first, &plan[..n]);
-    seeking::bounding::rebound(list, bounds, first, first + n);
+    bounding::rebound(list, bounds, first, first + n);
 }

@@ -2,8 +2,8 @@
 use Rattle.rules.specs.Placing.{Answer}
 use Rattle.rules.specs.Looking.{Found}
 use Rattle.rules.specs.Runs.{one}
-use Rattle.list.specs.Answers.{ScanPaper}
-use Rattle.telling.specs.declared.Told.{Told}
+use Rattle.answers.specs.Answers.{ScanPaper}
+use Rattle.given.specs.declared.Told.{Told}
 
 -- present, segment
 abbrev pub foundWords : Found → Told

@@ -1,21 +1,15 @@
 // What each answer tells in numbers, for C calls and programs: the paper's number, and its values (yes is 1, no is 0).
 ghost use mathlib.Core.Path.{_≡_};
-ghost use Rattle.list.specs.Answers.{makeNumber, checkNumber, lookupPaper, scanPaper, insertPaper, deletePaper};
+ghost use Rattle.answers.specs.Answers.{makeNumber, checkNumber, lookupPaper, scanPaper, insertPaper, deletePaper};
 ghost use Rattle.telling.specs.Told.{foundWords, scannedWords, answerWords};
-use list::CheckAnswer;
-use list::DeleteAnswer;
-use list::InsertAnswer;
-use list::LookupAnswer;
-use list::MakeAnswer;
-use list::ScanAnswer;
+use answers::CheckAnswer;
+use answers::DeleteAnswer;
+use answers::InsertAnswer;
+use answers::LookupAnswer;
+use answers::MakeAnswer;
+use answers::ScanAnswer;
+use given::Told;
 use words::numbers::refusal_number;
-
-// A number, and the values that come with it.
-pub struct Told {
-    pub number: u64,
-    pub first: u64,
-    pub second: u64,
-}
 
 pub fn make_number(answer: MakeAnswer) -> u64
     ensures { λ r. ⌜ r ≡ makeNumber answer ⌝ }

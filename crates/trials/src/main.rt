@@ -3,8 +3,8 @@
 ghost use Prim.Native.Nat.{_≤_, _<_, _+_};
 ghost use lib.ListN.{length};
 use forecast::Forecast;
+use given::Told;
 use libc::STDOUT_FILENO;
-use telling::Told;
 
 struct Command {
     ask: u8,
@@ -60,7 +60,7 @@ fn show_counts(slots: &[u64]) {
     while s < n {
         let a = 64 * s;
         let e = a + 64;
-        number(slots::counting::count_keys(&slots[a..e]) as u64);
+        number(places::counting::count_keys(&slots[a..e]) as u64);
         s += 1;
     }
     text(b"\n");

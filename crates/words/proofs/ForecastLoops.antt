@@ -5,9 +5,10 @@ use mathlib.Core.List.{List, [], _∷_, map}
 use native.Mathlib.Omega.{arith}
 use lib.ListN.{length, drop, getD, set, drop-of-length-le, length-map, List·getD-map}
 use Rattle.lists.proofs.Overwritten.{written, written-more, written-done}
-use Rattle.forecast.specs.declared.Cell.{Cell}
+use Rattle.cells.specs.declared.Cell.{Cell}
+use Rattle.cells.specs.Cells.{zeroCell}
 use Rattle.forecast.specs.declared.Forecast.{Forecast}
-use Rattle.forecast.specs.Cells.{zeroCell, cells}
+use Rattle.forecast.specs.Cells.{cells}
 use Rattle.forecast.specs.Tidy.{Roomy}
 use Rattle.forecast.proofs.Stepping.{roomy-12, roomy-at}
 use Rattle.words.specs.Words.{cellsIn, forecastWords}

@@ -17,13 +17,14 @@ use Rattle.lists.proofs.Search.{place-le}
 use Rattle.slots.specs.Segments.{Segments}
 use Rattle.lists.proofs.Tests.{either}
 use Rattle.slots.specs.Keys.{member, segmentOf}
-use Rattle.forecast.specs.declared.Cell.{Cell}
+use Rattle.cells.specs.declared.Cell.{Cell}
+use Rattle.cells.specs.Cells.{cell, zeroCell, zip3, marks}
+use Rattle.cells.proofs.Ruled.{Ruled, Placed}
 use Rattle.forecast.specs.declared.Forecast.{Forecast}
 use Rattle.forecast.specs.declared.Fault.the-variants.{Sound, TooMany}
-use Rattle.forecast.specs.Cells.{cell, zeroCell, zip3, cells, usedCells, marks}
+use Rattle.forecast.specs.Cells.{cells, usedCells}
 use Rattle.forecast.specs.Faults.{faultAt, isSound, faultOf}
 use Rattle.forecast.specs.Tidy.{Roomy, Tidy, Marker}
-use Rattle.forecast.proofs.Ruled.{Ruled, Placed}
 use Rattle.forecast.proofs.Checked.{fault-many}
 use Rattle.forecast.proofs.Faults.{sound-ruled}
 use Rattle.forecast.proofs.Became.{tidy-of-sound}

@@ -5,11 +5,12 @@ use mathlib.Core.List.{List, [], _∷_, map}
 use native.Mathlib.Omega.{arith}
 use lib.ListN.{length, drop, getD, length-map}
 use lib.Seq.{getD-drop}
-use Rattle.forecast.specs.declared.Cell.{Cell}
+use Rattle.cells.specs.declared.Cell.{Cell}
+use Rattle.cells.specs.Cells.{cell, zeroCell, zip3}
+use Rattle.cells.proofs.Zipped.{markers-zip, segments-zip, counts-zip}
 use Rattle.forecast.specs.declared.Forecast.{Forecast}
-use Rattle.forecast.specs.Cells.{cell, zeroCell, zip3, cells}
+use Rattle.forecast.specs.Cells.{cells}
 use Rattle.forecast.specs.Tidy.{Roomy}
-use Rattle.forecast.proofs.Rows.{markers-zip, segments-zip, counts-zip}
 use Rattle.forecast.proofs.Stepping.{roomy-12}
 use Rattle.words.specs.Words.{cellsIn, cellWords, showing, forecastIn, forecastWords}
 

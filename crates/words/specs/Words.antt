@@ -4,9 +4,10 @@ use mathlib.Core.List.{List, [], _∷_, map}
 use lib.Dec.{leb}
 use lib.ListN.{drop, getD}
 use Rattle.lists.specs.Choice.{if_then_else_}
-use Rattle.forecast.specs.declared.Cell.{Cell}
+use Rattle.cells.specs.declared.Cell.{Cell}
+use Rattle.cells.specs.Cells.{cell}
 use Rattle.forecast.specs.declared.Forecast.{Forecast}
-use Rattle.forecast.specs.Cells.{cell, cells}
+use Rattle.forecast.specs.Cells.{cells}
 
 -- A forecast travels as 37 words: used, then marker, segment and count of each of its 12 cells.
 unfoldable pub cellsIn : ℕ → List ℕ → List Cell

@@ -16,7 +16,8 @@ use Rattle.slots.proofs.HeightLaws.{height-cases}
 use Rattle.rules.specs.Shares.{shares, capacity}
 use Rattle.rules.specs.Checks.{sharesOf}
 use Rattle.rules.specs.declared.Refusal.the-variants.{WrongLength, WrongOrder, TooManyKeys}
-use Rattle.checks.proofs.Numbers.{refetched, wrong-length, wrong-order, too-many, list-sound, looked-refused, counting-refused, counting-kept}
+use Rattle.rules.proofs.Refusals.CheckCases.{wrong-length, wrong-order, too-many, list-sound}
+use Rattle.checks.proofs.Numbers.{refetched, looked-refused, counting-refused, counting-kept}
 use Rattle.checks.proofs.look_over.Statement.{statement}
 use Rattle.checks.proofs.look_over.Tie as tie
 

@@ -12,11 +12,11 @@ use Rattle.forecast.specs.Faults.{faultOf, isSound}
 use Rattle.rules.specs.Shares.{shares, cellsOf}
 use Rattle.rules.specs.Checks.{sharesOf, checkList}
 use Rattle.rules.specs.Refusals.{verdictNumber}
-use Rattle.rules.proofs.Requests.Checked.{passed}
 use Rattle.rules.specs.declared.Verdict.the-variants.{Accepted}
 use Rattle.rules.specs.declared.Refusal.the-variants.{WrongForecast}
 use Rattle.rules.proofs.Requests.Shown.{shows-passed, long-passed}
-use Rattle.checks.proofs.Numbers.{list-first, wrong-forecast, both-sound, refused-some, looked-refused, counting-refused}
+use Rattle.rules.proofs.Refusals.CheckCases.{list-first, wrong-forecast, both-sound}
+use Rattle.checks.proofs.Numbers.{refused-some, looked-refused, counting-refused}
 use Rattle.checks.specs.declared.Listing.{Listing}
 use Rattle.checks.specs.Listings.{ListLooked, Counting}
 use Rattle.checks.proofs.look_over_both.Statement.{statement}

@@ -6,7 +6,8 @@ use lib.ListN.{length, take, length-take, getD}
 use lib.Seq.{take-all}
 use Rattle.lists.proofs.Members.{at-mem}
 use Rattle.slots.specs.Segments.{Segments}
-use Rattle.forecast.specs.Cells.{usedCells, zeroCell}
+use Rattle.cells.specs.Cells.{zeroCell}
+use Rattle.forecast.specs.Cells.{usedCells}
 use Rattle.forecast.proofs.Stepping.{cells-used, cell-is, tidy-roomy, roomy-cell}
 use Rattle.marks.specs.Marking.{after, Aims, Marking}
 use Rattle.marks.proofs.CellMarks.{MarkedBy, marking-none, marking-next}

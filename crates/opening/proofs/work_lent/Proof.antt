@@ -5,7 +5,7 @@ use mathlib.Core.List.{List}
 use lib.ListN.{getD-replicate}
 use Rattle.forecast.specs.declared.Forecast.{Forecast}
 use Rattle.rules.specs.declared.Verdict.the-variants.{Accepted}
-use Rattle.seeking.specs.Bounds.{top}
+use Rattle.seats.specs.Bounds.{top}
 use Rattle.checks.specs.declared.Listing.{Listing}
 use Rattle.checks.specs.Listings.{BothLooked}
 use Rattle.checks.proofs.Numbers.{refused-some}

@@ -6,7 +6,7 @@ use mathlib.Core.List.{List, [], _∷_}
 use native.Mathlib.Omega.{arith}
 use borrow.Author.Tests.{eq-eqb, ne-eqb}
 use lib.Dec.{eqb}
-use lib.ListN.{length, take}
+use lib.ListN.{take}
 use Rattle.lists.specs.Choice.{if_then_else_}
 use Rattle.lists.specs.Search.{placeBy}
 use Rattle.lists.proofs.Searched.{Passed, passed-hit, passed-more, passed-all}

@@ -7,8 +7,8 @@ use lib.ListN.{replicate}
 use Rattle.lists.specs.Lists.{without, deal, joined, total}
 use Rattle.lists.proofs.Computed.{same, same→eq, all-at}
 use Rattle.slots.specs.Keys.{predecessor, segmentOf}
-use Rattle.forecast.specs.Cells.{cell, weight}
-use Rattle.forecast.specs.Steps.{raised, tailed, noted, dropped, retargeted}
+use Rattle.cells.specs.Cells.{cell, weight}
+use Rattle.cells.specs.Steps.{raised, tailed, noted, dropped, retargeted}
 use Rattle.rules.specs.declared.Request.the-variants.{Insert, Delete}
 use Rattle.rules.specs.Shares.{shares}
 use Rattle.rules.specs.SharingOut.{leftShare, plan, shareOut}

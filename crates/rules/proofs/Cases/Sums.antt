@@ -3,8 +3,8 @@ use mathlib.Core.Bool.{Bool}
 use Rattle.lists.specs.Lists.{without}
 use Rattle.lists.proofs.Computed.{same, same→eq, all-at}
 use Rattle.slots.specs.Keys.{predecessor, segmentOf}
-use Rattle.forecast.specs.Cells.{weight}
-use Rattle.forecast.specs.Steps.{raised, tailed, noted, dropped, retargeted}
+use Rattle.cells.specs.Cells.{weight}
+use Rattle.cells.specs.Steps.{raised, tailed, noted, dropped, retargeted}
 use Rattle.rules.specs.SharingOut.{leftShare, plan, shareOut}
 use Rattle.rules.specs.Placing.{sweep, chosen, settled, insertLevel, insertKey, deleteLevel, deleteKey, outcome}
 use Rattle.rules.specs.Sums.{Case, gives, says, cases, Sums}

@@ -9,8 +9,8 @@ use lib.Dec.{ltb→lt}
 use lib.ListN.{replicate}
 use Rattle.lists.specs.Lists.{without}
 use Rattle.slots.specs.Keys.{predecessor, segmentOf}
-use Rattle.forecast.specs.Cells.{cell, weight}
-use Rattle.forecast.specs.Steps.{raised, tailed, noted, dropped, retargeted}
+use Rattle.cells.specs.Cells.{cell, weight}
+use Rattle.cells.specs.Steps.{raised, tailed, noted, dropped, retargeted}
 use Rattle.rules.specs.declared.Request.{Request}
 use Rattle.rules.specs.declared.Request.the-variants.{Insert, Delete}
 use Rattle.rules.specs.Shares.{shares}

@@ -9,9 +9,10 @@ use Rattle.lists.specs.Lists.{without, padded}
 use Rattle.slots.specs.Segments.{heightOf, segmentsOf, render}
 use Rattle.slots.specs.Orders.{orderOf}
 use Rattle.slots.specs.Keys.{predecessor, segmentOf}
-use Rattle.forecast.specs.Cells.{cell, cells, forecastOf, weight}
+use Rattle.cells.specs.Cells.{cell, weight}
+use Rattle.cells.specs.Steps.{raised, tailed, noted, dropped, retargeted}
+use Rattle.forecast.specs.Cells.{cells, forecastOf}
 use Rattle.forecast.specs.Faults.{faultAt, faultOf}
-use Rattle.forecast.specs.Steps.{raised, tailed, noted, dropped, retargeted}
 use Rattle.rules.specs.declared.Request.{Request}
 use Rattle.rules.specs.declared.Request.the-variants.{Delete}
 use Rattle.rules.specs.SharingOut.{leftShare, plan, shareOut}

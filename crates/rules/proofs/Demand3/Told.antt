@@ -5,7 +5,7 @@ use mathlib.Core.Option.{Option, none, some}
 use mathlib.Core.List.{List}
 use Prim.Native.Nat.{ℕ}
 use Rattle.slots.specs.Segments.{Segments}
-use Rattle.forecast.specs.declared.Cell.{Cell}
+use Rattle.cells.specs.declared.Cell.{Cell}
 use Rattle.rules.specs.declared.Request.the-variants.{Insert, Delete, Bad}
 use Rattle.rules.specs.Shares.{Shares}
 use Rattle.rules.specs.Placing.{Room, Outcome, settled, insertLevel, insertKey, deleteLevel, deleteKey}

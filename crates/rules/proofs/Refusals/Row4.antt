@@ -15,7 +15,7 @@ use Rattle.slots.proofs.HeightLaws.{height-one}
 use Rattle.slots.proofs.Live.{live-key}
 use Rattle.slots.proofs.Marks.{segment-at}
 use Rattle.slots.proofs.Keys.{segment-front}
-use Rattle.forecast.specs.declared.Cell.{Cell}
+use Rattle.cells.specs.declared.Cell.{Cell}
 use Rattle.forecast.specs.declared.Forecast.{Forecast}
 use Rattle.forecast.specs.Faults.{faultOf, isSound}
 use Rattle.forecast.specs.Tidy.{Marker}

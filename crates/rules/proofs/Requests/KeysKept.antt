@@ -12,8 +12,8 @@ use Rattle.slots.specs.Segments.{Segments, keys}
 use Rattle.slots.specs.Keys.{segmentOf}
 use Rattle.slots.proofs.Windows.{pow-pos}
 use Rattle.slots.proofs.Keys.{member→mem}
-use Rattle.forecast.specs.declared.Cell.{Cell}
-use Rattle.forecast.specs.Steps.{aimed, retargeted, noted, dropped}
+use Rattle.cells.specs.declared.Cell.{Cell}
+use Rattle.cells.specs.Steps.{aimed, retargeted, noted, dropped}
 use Rattle.rules.specs.declared.Request.the-variants.{Insert, Delete, Bad}
 use Rattle.rules.specs.Shares.{Shares, cellsOf}
 use Rattle.slots.specs.Keys.{predecessor}

@@ -17,7 +17,7 @@ use Rattle.slots.specs.Keys.{segmentOf}
 use Rattle.slots.proofs.Windows.{pow-pos}
 use Rattle.slots.proofs.Rising.{length-put, length-cut}
 use Rattle.slots.proofs.Keys.{member→mem, not-member, keys-parts}
-use Rattle.forecast.specs.declared.Cell.{Cell}
+use Rattle.cells.specs.declared.Cell.{Cell}
 use Rattle.rules.specs.declared.Request.{Request}
 use Rattle.rules.specs.declared.Request.the-variants.{Insert, Delete, Bad}
 use Rattle.rules.specs.Shares.{Shares, shares, capacity}

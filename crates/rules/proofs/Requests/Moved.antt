@@ -19,7 +19,7 @@ use Rattle.slots.proofs.Windows.{pow-pos}
 use Rattle.slots.proofs.Counts.{count-set-in, count-set-out, count-zero}
 use Rattle.slots.proofs.Rising.{length-put, length-cut, put-rising, cut-rising, put-mem, cut-mem}
 use Rattle.slots.proofs.Keys.{segment-mem, in-part, rising-part, not-member, member→mem, home-between, live-between, keys-put, keys-cut}
-use Rattle.forecast.specs.declared.Cell.{Cell}
+use Rattle.cells.specs.declared.Cell.{Cell}
 use Rattle.rules.specs.declared.Request.{Request}
 use Rattle.rules.specs.declared.Request.the-variants.{Insert, Delete, Bad}
 use Rattle.rules.specs.Shares.{Shares, within}

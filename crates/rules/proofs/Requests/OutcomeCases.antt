@@ -15,7 +15,7 @@ use Rattle.slots.specs.Windows.{count}
 use Rattle.slots.specs.Keys.{Listed, member, above, cut, predecessor, segmentOf}
 use Rattle.slots.proofs.Rising.{length-put, length-cut}
 use Rattle.slots.proofs.Keys.{not-member, keys-put, keys-cut}
-use Rattle.forecast.specs.Steps.{noted, dropped}
+use Rattle.cells.specs.Steps.{noted, dropped}
 use Rattle.rules.specs.declared.Request.the-variants.{Insert, Delete}
 use Rattle.rules.specs.Shares.{Shares, capacity, sparseBelow, cellsOf}
 use Rattle.rules.specs.Placing.{Room, refusedBy, accept, home, putIn, cutFrom, chosen, insertLevel, deleteLevel, sweep, settled, insertKey, deleteKey, outcome}

@@ -14,10 +14,10 @@ use Rattle.slots.specs.Keys.{predecessor, segmentOf}
 use Rattle.slots.proofs.Windows.{pow-pos}
 use Rattle.slots.proofs.Rising.{mem-put, mem-cut}
 use Rattle.slots.proofs.Keys.{pred-mem, member→mem}
-use Rattle.forecast.specs.declared.Cell.{Cell}
-use Rattle.forecast.specs.Steps.{noted, dropped}
-use Rattle.forecast.proofs.Ruled.{Ruled, Placed, wider}
-use Rattle.forecast.proofs.Kept.{noted-ruled, dropped-ruled, retargeted-ruled}
+use Rattle.cells.specs.declared.Cell.{Cell}
+use Rattle.cells.specs.Steps.{noted, dropped}
+use Rattle.cells.proofs.Ruled.{Ruled, Placed, wider}
+use Rattle.cells.proofs.Kept.{noted-ruled, dropped-ruled, retargeted-ruled}
 use Rattle.forecast.specs.Tidy.{Marker}
 use Rattle.rules.specs.declared.Request.{Request}
 use Rattle.rules.specs.declared.Request.the-variants.{Insert, Delete, Bad}

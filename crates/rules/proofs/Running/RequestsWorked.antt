@@ -10,21 +10,13 @@ use borrow.Author.Tests.{lt-ltb, le-ltb}
 use lib.ListN.{length, take, getD}
 use Rattle.lists.specs.Lists.{All}
 use Rattle.lists.proofs.Tests.{is-true, is-false, tested}
-use Rattle.slots.specs.Keys.{predecessor, segmentOf}
 use Rattle.rules.specs.declared.Request.{Request}
-use Rattle.rules.specs.declared.Request.the-variants.{Insert, Bad}
-use Rattle.rules.specs.Shares.{Shares, shares}
-use Rattle.rules.specs.Placing.{Room, settled, insertLevel, insertKey, outcome}
+use Rattle.rules.specs.declared.Request.the-variants.{Bad}
+use Rattle.rules.specs.Shares.{Shares}
+use Rattle.rules.specs.Placing.{Room, outcome}
 use Rattle.rules.specs.declared.Tally.{Tally}
-use Rattle.rules.specs.Runs.{isBad, nothing, tallied, Ran, stopped, work}
+use Rattle.rules.specs.Runs.{isBad, tallied, Ran, stopped, work}
 use Rattle.rules.proofs.Running.BadRecords.{not-bad}
-
--- an insert of one move into an empty list, with no moves allowed: the run stops before it
-pub stops-before :
-    let R : Room = record { segments = [] ∷ [] ∷ []; cells = [] } in
-    work (shares 1) 0 (Insert 5 ∷ []) R nothing ≡ stopped 10 R nothing
-unfolding work outcome insertKey insertLevel settled predecessor segmentOf
-stops-before = refl
 
 -- one step of a run: at the end, at a bad record, before one whose moves would pass the allowance, and else
 module _ (S : Shares) (allowance : ℕ) where

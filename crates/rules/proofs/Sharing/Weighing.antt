@@ -13,14 +13,15 @@ use Rattle.lists.proofs.Members.{at-mem}
 use Rattle.slots.specs.Windows.{start}
 use Rattle.slots.specs.Keys.{predecessor}
 use Rattle.slots.proofs.Keys.{pred-mem}
-use Rattle.forecast.specs.declared.Cell.{Cell}
+use Rattle.cells.specs.declared.Cell.{Cell}
+use Rattle.cells.specs.Cells.{zeroCell, cellAt, weight}
+use Rattle.cells.specs.Steps.{noted, dropped}
+use Rattle.cells.proofs.Laws.{weight-at, weight-none}
+use Rattle.cells.proofs.Ruled.{Ruled}
+use Rattle.cells.proofs.Kept.{noted-ruled, dropped-ruled}
 use Rattle.forecast.specs.declared.Forecast.{Forecast}
-use Rattle.forecast.specs.Cells.{zeroCell, cellAt, usedCells, weight}
-use Rattle.forecast.specs.Steps.{noted, dropped}
+use Rattle.forecast.specs.Cells.{usedCells}
 use Rattle.forecast.specs.Tidy.{Marker, Fitting}
-use Rattle.forecast.proofs.Laws.{weight-at, weight-none}
-use Rattle.forecast.proofs.Ruled.{Ruled}
-use Rattle.forecast.proofs.Kept.{noted-ruled, dropped-ruled}
 use Rattle.rules.specs.Shares.{Shares, cellsOf}
 use Rattle.rules.specs.Placing.{Room, home, frontWeight}
 use Rattle.rules.proofs.Requests.StaysGood.{Good}

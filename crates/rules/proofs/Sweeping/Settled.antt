@@ -19,8 +19,8 @@ use Rattle.slots.specs.Windows.{start, window, count}
 use Rattle.slots.proofs.Windows.{start-fits, start-le, lt-end}
 use Rattle.slots.proofs.Counts.{Outside, ends-above, ends-beside, window-splice, window-inside, count-window}
 use Rattle.slots.proofs.Keys.{keys-splice}
-use Rattle.forecast.specs.declared.Cell.{Cell}
-use Rattle.forecast.specs.Cells.{weight}
+use Rattle.cells.specs.declared.Cell.{Cell}
+use Rattle.cells.specs.Cells.{weight}
 use Rattle.rules.specs.Shares.{Shares, Lawful, within}
 use Rattle.rules.specs.Placing.{frontWeight, newWindow, sweep, settled}
 use Rattle.rules.specs.Readings.{Limits}

@@ -20,8 +20,8 @@ use Rattle.slots.specs.Keys.{member, put, cut, segmentOf}
 use Rattle.slots.proofs.Windows.{pow-pos, start-le, lt-end, window-zero}
 use Rattle.slots.proofs.Rising.{length-put, length-cut}
 use Rattle.slots.proofs.Keys.{not-member, member→mem, segment-mem, in-part, rising-part, home-between, keys-put}
-use Rattle.forecast.specs.declared.Cell.{Cell}
-use Rattle.forecast.specs.Cells.{weight}
+use Rattle.cells.specs.declared.Cell.{Cell}
+use Rattle.cells.specs.Cells.{weight}
 use Rattle.rules.specs.declared.Request.the-variants.{Insert, Delete, Bad}
 use Rattle.rules.specs.Shares.{Shares, Lawful, capacity}
 use Rattle.rules.specs.Placing.{Room, home, putIn, insertLevel, deleteLevel, frontWeight, newWindow, sweep, settled, chosen, insertKey, deleteKey}

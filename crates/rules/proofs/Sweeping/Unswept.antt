@@ -18,12 +18,12 @@ use Rattle.slots.specs.Segments.{Segments, keys}
 use Rattle.slots.specs.Keys.{member, put, cut, predecessor, segmentOf}
 use Rattle.slots.proofs.Rising.{put-mem, mem-put, cut-mem, mem-cut}
 use Rattle.slots.proofs.Keys.{member→mem, mem→member, not-member, segment-front, segment-place}
-use Rattle.forecast.specs.declared.Cell.{Cell}
-use Rattle.forecast.specs.Cells.{zeroCell, cellAt}
-use Rattle.forecast.specs.Steps.{raised, tailed, noted, dropped, aimed, retargeted}
+use Rattle.cells.specs.declared.Cell.{Cell}
+use Rattle.cells.specs.Cells.{zeroCell, cellAt}
+use Rattle.cells.specs.Steps.{raised, tailed, noted, dropped, aimed, retargeted}
+use Rattle.cells.proofs.Laws.{noted-raised, noted-spent, noted-new, noted-full, raised-head, raised-past, tailed-gone, tailed-less, dropped-is, retargeted-is}
+use Rattle.cells.proofs.Ruled.{Placed}
 use Rattle.forecast.specs.Tidy.{Marker}
-use Rattle.forecast.proofs.Laws.{noted-raised, noted-spent, noted-new, noted-full, raised-head, raised-past, tailed-gone, tailed-less, dropped-is, retargeted-is}
-use Rattle.forecast.proofs.Ruled.{Placed}
 use Rattle.rules.specs.Shares.{Shares, cellsOf}
 use Rattle.rules.specs.Placing.{Room, home, putIn, cutFrom}
 use Rattle.rules.proofs.Requests.StaysGood.{Good}

@@ -1,6 +1,6 @@
 -- `shares::shape_of` meets its contract: capacity and floor are the segments times the whole array's shares.
-use mathlib.Core.Path.{_≡_, refl, ap₂, _∙_}
-use Prim.Native.Nat.{ℕ, _*_, _≤_}
+use mathlib.Core.Path.{refl, ap₂, _∙_}
+use Prim.Native.Nat.{ℕ, _*_}
 use native.Mathlib.Omega.{arith}
 use borrow.Author.Needs.{needs}
 use Rattle.shares.proofs.Products.{fits-mul}

@@ -6,7 +6,7 @@ use mathlib.Core.List.{List}
 use lib.ListN.{length, take}
 use lib.Seq.{take-length}
 use Rattle.lists.specs.Lists.{total, deal, insertAt}
-use Rattle.moves.specs.Layout.{render}
+use Rattle.slots.specs.Layout.{render}
 use Rattle.spreads.proofs.Inserting.{insert-keys, laid-in}
 use Rattle.spreads.proofs.Packing.{total-bound, total-all, total-pred}
 use Rattle.spreads.proofs.Laying.{Laid, laid-none, laid-all}

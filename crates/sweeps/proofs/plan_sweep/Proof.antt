@@ -7,8 +7,9 @@ use lib.ListN.{length, take}
 use lib.Seq.{length-take-le}
 use borrow.Author.Needs.{needs}
 use Rattle.slots.specs.Segments.{segmentsOf}
+use Rattle.cells.specs.Cells.{weight}
 use Rattle.forecast.specs.declared.Forecast.{Forecast}
-use Rattle.forecast.specs.Cells.{usedCells, weight}
+use Rattle.forecast.specs.Cells.{usedCells}
 use Rattle.rules.specs.Shares.{shares}
 use Rattle.stretches.specs.declared.Part.{Part}
 use Rattle.stretches.specs.Marks.{Marked}

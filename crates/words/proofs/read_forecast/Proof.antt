@@ -5,7 +5,7 @@ use mathlib.Core.List.{map-map}
 use native.Mathlib.Omega.{arith}
 use lib.ListN.{getD, drop}
 use Rattle.lists.proofs.Overwritten.{written}
-use Rattle.forecast.specs.declared.Cell.{Cell}
+use Rattle.cells.specs.declared.Cell.{Cell}
 use Rattle.forecast.specs.Tidy.{Roomy}
 use Rattle.forecast.proofs.Stepping.{tidy-roomy}
 use Rattle.words.specs.Words.{capped, cellsIn}

@@ -5,8 +5,8 @@ use Prim.Native.Nat.{_<_}
 use mathlib.Core.Path.{_≡_}
 use lib.ListN.{getD}
 use mathlib.Core.Logic.{⊎-elim}
+use Rattle.cells.specs.Steps.{tailed, noted}
 use Rattle.forecast.specs.Cells.{usedCells}
-use Rattle.forecast.specs.Steps.{tailed, noted}
 use native.Mathlib.Omega.{arith}
 use Rattle.forecast.proofs.Forecast.note_insert.Proof.Lemmas.{raised-first, raised-ahead, pushed, is-raised, is-spent, is-new, is-full}
 use Rattle.forecast.proofs.Forecast.note_insert.Proof.Tail.{lowered-gone, lowered-less}

@@ -6,7 +6,7 @@ use native.Mathlib.Omega.{arith}
 use lib.ListN.{length}
 use Rattle.slots.specs.Segments.{Segments}
 use Rattle.slots.specs.Keys.{Listed, segmentOf}
-use Rattle.seeking.specs.Bounds.{Bounded}
+use Rattle.seats.specs.Bounds.{Bounded}
 use Rattle.forecast.specs.Cells.{usedCells}
 use Rattle.forecast.specs.Tidy.{Tidy, Live, Elsewhere}
 use Rattle.forecast.proofs.Stepping.{segments-row}

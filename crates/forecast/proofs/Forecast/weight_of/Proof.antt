@@ -3,8 +3,9 @@ use Prim.Native.Nat.{_≤_}
 use mathlib.Core.Path.{sym, _∙_}
 use native.Mathlib.Omega.{arith}
 use lib.ListN.{length}
-use Rattle.forecast.specs.Cells.{usedCells, cellAt}
-use Rattle.forecast.proofs.Laws.{weight-at, weight-none}
+use Rattle.cells.specs.Cells.{cellAt}
+use Rattle.cells.proofs.Laws.{weight-at, weight-none}
+use Rattle.forecast.specs.Cells.{usedCells}
 use Rattle.forecast.proofs.Stepping.{cells-used, count-is, place-is}
 use borrow.Author.Needs.{needs}
 use Rattle.forecast.proofs.Forecast.weight_of.Statement.{statement}

@@ -1,23 +1,22 @@
--- `ff_make` makes, and writes the empty forecast's words.
-use Rattle.host.proofs.ReadGiven.{make-misfit, make-given}
-use Rattle.host.proofs.Sized.{not-forecast}
+-- `ff_make`: the size, then making on words.
+use Rattle.host.proofs.Misfits.{make-misfit}
+use Rattle.host.proofs.Sized.{fit}
 use borrow.Author.Needs.{needs}
 use Rattle.host.proofs.calls.ff_make.Statement.{statement}
 use Rattle.host.proofs.calls.ff_make.Tie as tie
 
+no-forecast-requires : tie.Need-no-forecast-requires
+no-forecast-requires c κs = search needs
+
 returns : tie.Need-returns
 returns c =
-    let a = c .before .before .before .args in
-    make-misfit (a .list .now) (a .forecast .now) (not-forecast (a .forecast .now) (c .if1 .taken))
+    let a = c .before .before .before .before .args in
+    make-misfit (a .list .now) (a .forecast .now) _ (c .before .no-forecast .ensures) (c .if1 .taken)
 
 make-requires : tie.Need-make-requires
-make-requires c κs = search needs
-
-make-number-requires : tie.Need-make-number-requires
-make-number-requires c κs = search needs
-
-write-forecast-requires : tie.Need-write-forecast-requires
-write-forecast-requires c κs = search needs
+make-requires c κs =
+    let a = c .before .before .before .before .before .before .args in
+    fit (a .forecast .now) _ (c .before .before .before .no-forecast .ensures) (c .before .before .if1 .left)
 
 same-length : tie.Need-same-length
 same-length c = search needs
@@ -26,19 +25,9 @@ same-length-2 : tie.Need-same-length-2
 same-length-2 c = search needs
 
 returns-2 : tie.Need-returns-2
-returns-2 c =
-    let a = c .before .before .before .before .before .before .before .before .before .before .before .before .before .args in
-    let made = c .before .before .before .before .before .before .before .before .make in
-    make-given (a .list .now) (a .forecast .now) (made .result) (c .before .before .before .before .before .make-number .result) _ _ (c .before .before .before .before .before .before .before .before .before .before .if1 .left) (made .ensures) (c .before .before .write-forecast .ensures) (c .before .before .before .before .before .make-number .ensures)
+returns-2 c = search needs
 
 pub ff-make-spec : {M : Type 1} → statement M
 ff-make-spec =
     tie.close
-    (tie.spec
-    returns
-    make-requires
-    make-number-requires
-    write-forecast-requires
-    same-length
-    same-length-2
-    returns-2)
+    (tie.spec no-forecast-requires returns make-requires same-length same-length-2 returns-2)

@@ -1,35 +1,22 @@
--- `ff_insert`: the insert on the forecast that the words show, its words then, and the word of the reply.
-use Rattle.lists.proofs.Tests.{or-left, or-right}
-use Rattle.host.specs.Calls.{notForecast, short}
-use Rattle.host.proofs.ChangeGiven.{insert-misfit, insert-given}
-use Rattle.host.proofs.Sized.{not-forecast, is-short}
-use mathlib.Core.Path.{refl, sym}
-use mathlib.Core.Logic.{inl, inr}
+-- `ff_insert`: the sizes, then the insert on words.
+use Rattle.host.proofs.Misfits.{insert-misfit}
+use Rattle.host.proofs.Sized.{both-fit}
 use borrow.Author.Needs.{needs}
 use Rattle.host.proofs.changing.ff_insert.Statement.{statement}
 use Rattle.host.proofs.changing.ff_insert.Tie as tie
 
+misfits-requires : tie.Need-misfits-requires
+misfits-requires c κs = search needs
+
 returns : tie.Need-returns
 returns c =
-    let a = c .before .before .before .before .args in
-    insert-misfit (a .list .now) (a .forecast .now) (a .key) (a .reply .now) (or-left (notForecast (a .forecast .now)) (short (a .reply .now) 1) (not-forecast (a .forecast .now) (c .if1 .taken)))
-
-returns-2 : tie.Need-returns-2
-returns-2 c =
     let a = c .before .before .before .before .before .args in
-    insert-misfit (a .list .now) (a .forecast .now) (a .key) (a .reply .now) (or-right (notForecast (a .forecast .now)) (short (a .reply .now) 1) (is-short (a .reply .now) 1 (c .if2 .taken)))
-
-read-forecast-requires : tie.Need-read-forecast-requires
-read-forecast-requires c κs = search needs
+    insert-misfit (a .list .now) (a .forecast .now) (a .key) (a .reply .now) _ (c .before .misfits .ensures) (c .if1 .taken)
 
 insert-requires : tie.Need-insert-requires
-insert-requires c κs = search needs
-
-insert-told-requires : tie.Need-insert-told-requires
-insert-told-requires c κs = search needs
-
-slice-write-reply : tie.Need-slice-write-reply
-slice-write-reply c = search needs
+insert-requires c κs =
+    let a = c .before .before .before .before .before .before .before .before .args in
+    both-fit (a .forecast .now) (a .reply .now) 1 _ (c .before .before .before .before .misfits .ensures) (c .before .before .before .if1 .left)
 
 same-length : tie.Need-same-length
 same-length c = search needs
@@ -40,52 +27,17 @@ same-length-2 c = search needs
 same-length-3 : tie.Need-same-length-3
 same-length-3 c = search needs
 
-returns-3 : tie.Need-returns-3
-returns-3 c =
-    let a = c .before .before .before .before .before .before .before .before .before .before .before .before .before .before .args in
-    let read = c .before .before .before .before .before .before .before .read-forecast in
-    let done = c .before .before .before .before .before .insert in
-    let told = c .before .before .insert-told in
-    insert-given (a .list .now) (a .forecast .now) (a .key) (a .reply .now) (read .result) (done .result) (told .result) _ _ _ (c .before .before .before .before .before .before .before .before .before .before .if1 .left) (c .before .before .before .before .before .before .before .before .before .if2 .left) (read .ensures) (done .ensures) (told .ensures) refl
-    (inr (c .if3 .taken, refl))
-
-write-forecast-requires : tie.Need-write-forecast-requires
-write-forecast-requires c κs = search needs
-
-same-length-4 : tie.Need-same-length-4
-same-length-4 c = search needs
-
-same-length-5 : tie.Need-same-length-5
-same-length-5 c = search needs
-
-same-length-6 : tie.Need-same-length-6
-same-length-6 c = search needs
-
-returns-4 : tie.Need-returns-4
-returns-4 c =
-    let a = c .before .before .before .before .before .before .before .before .before .before .before .before .before .before .before .before .before .before .before .args in
-    let read = c .before .before .before .before .before .before .before .before .before .before .before .before .read-forecast in
-    let done = c .before .before .before .before .before .before .before .before .before .before .insert in
-    let told = c .before .before .before .before .before .before .before .insert-told in
-    insert-given (a .list .now) (a .forecast .now) (a .key) (a .reply .now) (read .result) (done .result) (told .result) _ _ _ (c .before .before .before .before .before .before .before .before .before .before .before .before .before .before .before .if1 .left) (c .before .before .before .before .before .before .before .before .before .before .before .before .before .before .if2 .left) (read .ensures) (done .ensures) (told .ensures) (sym (c .before .before .before .before .before .if3 .left))
-    (inl (c .before .before .before .before .before .if3 .left, c .before .before .write-forecast .ensures))
+returns-2 : tie.Need-returns-2
+returns-2 c = search needs
 
 pub ff-insert-spec : {M : Type 1} → statement M
 ff-insert-spec =
     tie.close
     (tie.spec
+    misfits-requires
     returns
-    returns-2
-    read-forecast-requires
     insert-requires
-    insert-told-requires
-    slice-write-reply
     same-length
     same-length-2
     same-length-3
-    returns-3
-    write-forecast-requires
-    same-length-4
-    same-length-5
-    same-length-6
-    returns-4)
+    returns-2)

@@ -11,7 +11,7 @@ use Rattle.slots.specs.Segments.{heightOf}
 use Rattle.moves.specs.Moves.{cleared}
 use Rattle.forecast.proofs.Became.{became-is}
 use Rattle.rules.specs.Calls.{Made}
-use Rattle.list.proofs.Replies.{make-refused, make-done}
+use Rattle.answers.proofs.Replies.{make-refused, make-done}
 use borrow.Author.Needs.{needs}
 use Rattle.list.proofs.calls.make.Statement.{statement}
 use Rattle.list.proofs.calls.make.Tie as tie

@@ -8,12 +8,13 @@ use lib.ListN.{length, take, set}
 use Rattle.lists.specs.Lists.{without}
 use Rattle.lists.specs.Search.{placeBy}
 use Rattle.lists.proofs.Fill.{length-without}
-use Rattle.forecast.specs.declared.Cell.{Cell}
+use Rattle.cells.specs.declared.Cell.{Cell}
+use Rattle.cells.specs.Cells.{zeroCell, row, cellAt}
+use Rattle.cells.specs.Steps.{dropped}
+use Rattle.cells.proofs.Laws.{dropped-is, dropped-none}
 use Rattle.forecast.specs.declared.Forecast.{Forecast}
-use Rattle.forecast.specs.Cells.{zeroCell, usedCells, row, cellAt}
-use Rattle.forecast.specs.Steps.{dropped}
+use Rattle.forecast.specs.Cells.{usedCells}
 use Rattle.forecast.specs.Tidy.{Tidy, Became}
-use Rattle.forecast.proofs.Laws.{dropped-is, dropped-none}
 use Rattle.forecast.proofs.Rows.{closing, closing-from, closing-last}
 use Rattle.forecast.proofs.Stepping.{became, cells-used, markers-row, segments-row, counts-row, place-is}
 

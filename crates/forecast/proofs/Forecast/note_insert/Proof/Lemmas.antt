@@ -10,12 +10,13 @@ use lib.ListN.{length, take, getD, set, length-set}
 use lib.Seq.{getD-set-same, getD-set-other, set-set}
 use Rattle.lists.specs.Search.{placeBy}
 use Rattle.rows.specs.Ahead.{aheadRow}
-use Rattle.forecast.specs.declared.Cell.{Cell}
+use Rattle.cells.specs.declared.Cell.{Cell}
+use Rattle.cells.specs.Cells.{cell, zeroCell, withCount, row, cellAt}
+use Rattle.cells.specs.Steps.{raised, tailed, noted}
+use Rattle.cells.proofs.Laws.{raised-head, raised-past}
 use Rattle.forecast.specs.declared.Forecast.{Forecast}
-use Rattle.forecast.specs.Cells.{cell, zeroCell, withCount, usedCells, row, cellAt}
-use Rattle.forecast.specs.Steps.{raised, tailed, noted}
+use Rattle.forecast.specs.Cells.{usedCells}
 use Rattle.forecast.specs.Tidy.{Tidy, Became}
-use Rattle.forecast.proofs.Laws.{raised-head, raised-past}
 use Rattle.forecast.proofs.Rows.{row-set, row-kept, row-more, row-ahead}
 use Rattle.forecast.proofs.Stepping.{made, became, cells-used, markers-row, segments-row, counts-row, count-is, place-is}
 

@@ -5,12 +5,13 @@ use mathlib.Core.List.{List}
 use native.Mathlib.Omega.{arith}
 use lib.ListN.{length, take, getD, set, length-set}
 use lib.Seq.{length-take-le}
-use Rattle.forecast.specs.declared.Cell.{Cell}
+use Rattle.cells.specs.declared.Cell.{Cell}
+use Rattle.cells.specs.Cells.{zeroCell, withCount}
+use Rattle.cells.specs.Steps.{tailed}
+use Rattle.cells.proofs.Laws.{tailed-gone, tailed-less}
 use Rattle.forecast.specs.declared.Forecast.{Forecast}
-use Rattle.forecast.specs.Cells.{zeroCell, withCount, usedCells}
-use Rattle.forecast.specs.Steps.{tailed}
+use Rattle.forecast.specs.Cells.{usedCells}
 use Rattle.forecast.specs.Tidy.{Tidy, Became}
-use Rattle.forecast.proofs.Laws.{tailed-gone, tailed-less}
 use Rattle.forecast.proofs.Rows.{row-set, row-kept, row-less}
 use Rattle.forecast.proofs.Stepping.{made, became, cells-used, markers-row, segments-row, counts-row, count-is}
 

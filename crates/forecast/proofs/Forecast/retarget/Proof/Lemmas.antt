@@ -10,10 +10,11 @@ use Rattle.lists.proofs.Members.{at-mem}
 use Rattle.lists.proofs.Overwritten.{written, written-more, written-ahead, written-done}
 use Rattle.slots.specs.Segments.{Segments}
 use Rattle.slots.specs.Keys.{segmentOf}
-use Rattle.forecast.specs.declared.Cell.{Cell}
+use Rattle.cells.specs.declared.Cell.{Cell}
+use Rattle.cells.specs.Cells.{cell, zeroCell, row}
+use Rattle.cells.specs.Steps.{aimed, retargeted}
 use Rattle.forecast.specs.declared.Forecast.{Forecast}
-use Rattle.forecast.specs.Cells.{cell, zeroCell, usedCells, row}
-use Rattle.forecast.specs.Steps.{aimed, retargeted}
+use Rattle.forecast.specs.Cells.{usedCells}
 use Rattle.forecast.specs.Tidy.{Tidy, Became, Marker, Live, Outside, Elsewhere}
 use Rattle.forecast.proofs.Rows.{row-set, row-kept, row-at, row-long, row-drop}
 use Rattle.forecast.proofs.Stepping.{became, cells-used, markers-row, segments-row, counts-row, marker-is}

@@ -1,0 +1,69 @@
+-- Any chain of calls that the promises admit is what the calls of `rules` tell and leave, so demand 2 holds of it.
+use mathlib.Core.Path.{_≡_, refl, sym, ap, ap₂, subst, _∙_}
+use mathlib.Core.List.{List, _∷_}
+use Prim.Native.Nat.{ℕ}
+use Rattle.slots.specs.Segments.{live}
+use Rattle.rules.specs.Shares.{shares}
+use Rattle.rules.specs.Placing.{Answer}
+use Rattle.rules.specs.Looking.{Found}
+use Rattle.rules.specs.PlainSet as set
+use Rattle.rules.specs.Demand2.{Held, told, after, allTold, afterAll, made, ruledAll, emptyRoom, moves, allMoves, IsRoom}
+use Rattle.rules.proofs.Demand2.Answered.{sequence-answered}
+use Rattle.rules.proofs.Demand2.Ruled.{sequence-ruled}
+use Rattle.answers.specs.Chains.{Call, inserted, deleted, lookedUp, scanned, Chain, none, next, Chained}
+
+-- what a call tells, reports and leaves
+record Same (H : Held) (a : set.Ask) (t : set.Told) (m : ℕ) (H′ : Held) : Type 0 where
+  told : t ≡ told a H
+  moves : m ≡ moves a H
+  left : H′ ≡ after a H
+
+same-call : {H H′ : Held} {a : set.Ask} {t : set.Told} {m : ℕ} → Call H a t m H′ → Same H a t m H′
+same-call (inserted y r left p) = record {
+  told = ap (λ (z : Answer). set.Inserted (z .number)) (p .answer);
+  moves = ap (λ (z : Answer). z .moves) (p .answer);
+  left = λ i. record { slots = p .slots-left i; forecast = p .forecast i };
+}
+same-call (deleted y r left p) = record {
+  told = ap (λ (z : Answer). set.Deleted (z .number) (z .sparse)) (p .answer);
+  moves = ap (λ (z : Answer). z .moves) (p .answer);
+  left = λ i. record { slots = p .slots-left i; forecast = p .forecast i };
+}
+same-call (lookedUp y r p) = record { told = ap (λ (f : Found). set.Found (f .number) (f .present)) (p .answer); moves = refl; left = refl }
+same-call (scanned a out r left p) = record { told = λ i. set.Scanned (p .number i) (p .written i) (p .more i) (p .output i); moves = refl; left = refl }
+
+-- and a chain
+record SameAll (H : Held) (asks : List set.Ask) (ts : List set.Told) (ms : List ℕ) (H′ : Held) : Type 0 where
+  told : ts ≡ allTold asks H
+  moves : ms ≡ allMoves asks H
+  left : H′ ≡ afterAll asks H
+
+same-next : {H H′ H″ : Held} {a : set.Ask} {t : set.Told} {m : ℕ} {asks : List set.Ask} {ts : List set.Told} {ms : List ℕ}
+    → Same H a t m H′ → SameAll H′ asks ts ms H″ → SameAll H (a ∷ asks) (t ∷ ts) (m ∷ ms) H″
+same-next {asks = asks} s r = record {
+  told = ap₂ {C = List set.Told} _∷_ (s .told) (r .told ∙ ap {B = List set.Told} (λ G. allTold asks G) (s .left));
+  moves = ap₂ {C = List ℕ} _∷_ (s .moves) (r .moves ∙ ap {B = List ℕ} (λ G. allMoves asks G) (s .left));
+  left = r .left ∙ ap {B = Held} (λ G. afterAll asks G) (s .left);
+}
+
+same-chain : {H H′ : Held} {asks : List set.Ask} {ts : List set.Told} {ms : List ℕ} → Chain H asks ts ms H′ → SameAll H asks ts ms H′
+same-chain none = record { told = refl; moves = refl; left = refl }
+same-chain (next c cs) = same-next (same-call c) (same-chain cs)
+
+-- after make
+pub chained : Chained
+chained h from to slots e r left m asks ts ms H c =
+    let d = sequence-answered h from to slots e asks in
+    let q = sequence-ruled h from to slots e asks in
+    record {
+      told = s .told ∙ d .0;
+      keys = ap (λ (G : Held). live (G .slots)) (s .left) ∙ d .1;
+      moves = s .moves ∙ q .1;
+      is-room = subst (IsRoom (shares h) (ruledAll (shares h) asks (emptyRoom h))) (sym (s .left)) (q .0);
+    }
+  where
+    begins : record { slots = left; forecast = r .forecast } ≡ made slots
+    begins = λ i. record { slots = m .slots-left i; forecast = m .forecast i }
+
+    s : SameAll (made slots) asks ts ms H
+    s = same-chain (subst (λ G. Chain G asks ts ms H) begins c)

@@ -1,0 +1,5 @@
+pub mod Replies
+pub mod Papers
+pub mod OneOutcome
+pub mod Chains
+pub mod Sums

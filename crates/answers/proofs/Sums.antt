@@ -1,0 +1,117 @@
+-- Sums 10 and 11 of document 01, as consequences of what the calls promise.
+use mathlib.Core.Path.{_≡_, refl, sym, ap, _∙_, subst}
+use mathlib.Core.Bool.{Bool, true, false}
+use mathlib.Core.Logic.{_⊎_, inl, inr, _≢_, _↔_}
+use mathlib.Core.List.{List, [], _∷_, List·Memᴰ as Mem}
+use Prim.Native.Nat.{ℕ, _<_}
+use native.Mathlib.Omega.{arith}
+use lib.Dec.{T, eqb, eqb→eq}
+use lib.ListN.{length}
+use Rattle.lists.proofs.Computed.{all-at}
+use Rattle.slots.specs.Segments.{live, heightOf, segmentsOf}
+use Rattle.forecast.specs.declared.Forecast.{Forecast}
+use Rattle.forecast.specs.Cells.{forecastOf}
+use Rattle.rules.specs.declared.Refusal.the-variants.{WrongLength}
+use Rattle.rules.specs.declared.Request.{Request}
+use Rattle.rules.specs.declared.Request.the-variants.{Insert, Delete}
+use Rattle.rules.specs.Checks.{checkList, check}
+use Rattle.rules.specs.Looking.{notFound, Scanned, scanned}
+use Rattle.rules.specs.Calls.{Made, Called, request, unchanged, scan}
+use Rattle.rules.proofs.Requests.Checked.{passed, keys-shown}
+use Rattle.rules.proofs.Requests.SingleCalls.{request-unchecked}
+use Rattle.rules.proofs.Sets.SetScan.{scanned-number, scan-none}
+use Rattle.answers.specs.declared.MakeAnswer.{MakeAnswer}
+use Rattle.answers.specs.declared.MakeReply.{MakeReply}
+use Rattle.answers.specs.declared.CheckAnswer.{CheckAnswer}
+use Rattle.answers.specs.declared.LookupAnswer.{LookupAnswer}
+use Rattle.answers.specs.declared.ScanAnswer.{ScanAnswer}
+use Rattle.answers.specs.declared.InsertAnswer.{InsertAnswer}
+use Rattle.answers.specs.declared.InsertReply.{InsertReply}
+use Rattle.answers.specs.declared.DeleteAnswer.{DeleteAnswer}
+use Rattle.answers.specs.declared.DeleteReply.{DeleteReply}
+use Rattle.answers.specs.Answers.{scanPaper}
+use Rattle.answers.specs.Admits.{MakeAdmits, CheckAdmits, LookupAdmits, ScanAdmits, InsertAdmits, DeleteAdmits}
+use Rattle.rules.proofs.Refusals.CheckCases.{wrong-length, list-first}
+use Rattle.answers.proofs.Replies.{make-refused, lookup-refused, scan-passed, refused-admits}
+use Rattle.answers.proofs.Papers.{make-told, check-told, lookup-told, scan-told, insert-told, delete-told}
+use Rattle.answers.proofs.OneOutcome.{scan-one}
+
+-- SUM 10: a length of 0, 64, 192 or 8,192 slots is refused by 1, and all that is lent stays
+abbrev pub wrongLengths : List ℕ
+wrongLengths = 0 ∷ 64 ∷ 192 ∷ 8192 ∷ []
+
+module _ (slots : List ℕ) (m : Mem (length slots) wrongLengths) where
+  no-height : heightOf (length slots) ≡ 0
+  unfolding heightOf
+  no-height = eqb→eq _ _ (all-at (λ n. eqb (heightOf n) 0) wrongLengths tt (length slots) m)
+
+  one : checkList slots ≡ 1
+  one = wrong-length slots no-height
+
+  refused : checkList slots ≢ 0
+  refused = omega (arith, one)
+
+  check-one : (F : Forecast) → check slots F ≡ 1
+  check-one F = list-first slots F refused ∙ one
+
+  request-one : (q : Request) (F : Forecast) → request q slots F ≡ unchanged slots F 1
+  request-one q F = request-unchecked q slots F (omega (arith, check-one F)) ∙ ap (unchanged slots F) (check-one F)
+
+  pub make-wrong : (r : MakeReply) (left : List ℕ) → MakeAdmits slots r left → (r .answer ≡ MakeAnswer.Refused WrongLength) × (r .forecast ≡ forecastOf []) × (left ≡ slots)
+  make-wrong r left a =
+      let e = make-refused slots no-height in
+      (make-told (r .answer) (MakeAnswer.Refused WrongLength) (a .answer ∙ ap (λ (d : Made). d .number) e), a .forecast ∙ ap (λ (d : Made). d .forecast) e, a .slots-left ∙ ap (λ (d : Made). d .slots) e)
+
+  pub check-wrong : (F : Forecast) (r : CheckAnswer) → CheckAdmits slots F r → r ≡ CheckAnswer.Refused WrongLength
+  check-wrong F r a = check-told r (CheckAnswer.Refused WrongLength) (a .answer ∙ check-one F)
+
+  pub lookup-wrong : (y : ℕ) (r : LookupAnswer) → LookupAdmits slots y r → r ≡ LookupAnswer.Refused WrongLength
+  lookup-wrong y r a = lookup-told r (LookupAnswer.Refused WrongLength) (a .answer ∙ lookup-refused slots y refused ∙ ap notFound one)
+
+  pub scan-wrong : (a : ℕ) (out : List ℕ) (r : ScanAnswer) (left : List ℕ) → ScanAdmits slots a out r left → (r ≡ ScanAnswer.Refused WrongLength) × (left ≡ out)
+  scan-wrong a out r left p = scan-one slots a out r (ScanAnswer.Refused WrongLength) left out p (refused-admits slots a out WrongLength one)
+
+  pub insert-wrong : (F : Forecast) (y : ℕ) (r : InsertReply) (left : List ℕ) → InsertAdmits slots F y r left → (r .answer ≡ InsertAnswer.Refused WrongLength) × (r .forecast ≡ F) × (left ≡ slots)
+  insert-wrong F y r left a =
+      let e = request-one (Insert y) F in
+      (insert-told (r .answer) (InsertAnswer.Refused WrongLength) (a .answer ∙ ap (λ (d : Called). d .answer) e), a .forecast ∙ ap (λ (d : Called). d .forecast) e, a .slots-left ∙ ap (λ (d : Called). d .slots) e)
+
+  pub delete-wrong : (F : Forecast) (y : ℕ) (r : DeleteReply) (left : List ℕ) → DeleteAdmits slots F y r left → (r .answer ≡ DeleteAnswer.Refused WrongLength) × (r .forecast ≡ F) × (left ≡ slots)
+  delete-wrong F y r left a =
+      let e = request-one (Delete y) F in
+      (delete-told (r .answer) (DeleteAnswer.Refused WrongLength) (a .answer ∙ ap (λ (d : Called). d .answer) e), a .forecast ∙ ap (λ (d : Called). d .forecast) e, a .slots-left ∙ ap (λ (d : Called). d .slots) e)
+
+-- a live key above a exists
+abbrev Exceeds : List ℕ → ℕ → Type 0
+Exceeds ks a = (k : ℕ) × Mem k ks × (a < k)
+
+-- SUM 11: a scan into an empty output writes 0 keys, and says that more remain exactly if a live key above a exists
+pub scan-empty : (slots : List ℕ) (a : ℕ) (r : ScanAnswer) (left : List ℕ) → checkList slots ≡ 0 → ScanAdmits slots a [] r left
+    → ((r ≡ ScanAnswer.Ended 0) ⊎ (r ≡ ScanAnswer.More 0)) × ((r ≡ ScanAnswer.More 0) ↔ ((k : ℕ) × Mem k (live slots) × (a < k)))
+scan-empty slots a r left e p = go (scanned a (segmentsOf slots) [] .more) refl
+  where
+    told : T (scanned a (segmentsOf slots) [] .more) ↔ Exceeds (live slots) a
+    told = subst (λ (ks : List ℕ). T (scanned a (segmentsOf slots) [] .more) ↔ Exceeds ks a) (keys-shown slots (passed slots e)) (scan-none a (segmentsOf slots) .1)
+
+    is : scan slots a [] ≡ scanned a (segmentsOf slots) []
+    is = scan-passed slots a [] e
+
+    number : scanPaper r .number ≡ 0
+    number = p .number ∙ ap (λ (s : Scanned). s .number) is ∙ scanned-number a (segmentsOf slots) []
+
+    written : scanPaper r .written ≡ 0
+    written = p .written ∙ ap (λ (s : Scanned). s .written) is ∙ scan-none a (segmentsOf slots) .0
+
+    more : scanPaper r .more ≡ scanned a (segmentsOf slots) [] .more
+    more = p .more ∙ ap (λ (s : Scanned). s .more) is
+
+    go : (b : Bool) → scanned a (segmentsOf slots) [] .more ≡ b → ((r ≡ ScanAnswer.Ended 0) ⊎ (r ≡ ScanAnswer.More 0)) × ((r ≡ ScanAnswer.More 0) ↔ Exceeds (live slots) a)
+    go true q =
+        let m : r ≡ ScanAnswer.More 0 = scan-told r (ScanAnswer.More 0) (λ i. record { number = number i; written = written i; more = (more ∙ q) i }) in
+        (inr m, (λ _. told .0 (rw q tt), λ _. m))
+    go false q =
+        let m : r ≡ ScanAnswer.Ended 0 = scan-told r (ScanAnswer.Ended 0) (λ i. record { number = number i; written = written i; more = (more ∙ q) i }) in
+        (inl m, (λ n. absurd (other (sym m ∙ n)), λ k. absurd (rw q at (told .1 k))))
+      where
+        other : ScanAnswer.Ended 0 ≡ ScanAnswer.More 0 → ⊥
+        other n = let z : _≡_ {A = ℕ} 0 1 = cc in omega arith

@@ -1,0 +1,4 @@
+pub mod Over
+pub mod Numbers
+pub mod Leaves
+pub mod OneOutcome

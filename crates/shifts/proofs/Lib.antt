@@ -1,0 +1,2 @@
+pub mod InSegment
+pub mod Shifted

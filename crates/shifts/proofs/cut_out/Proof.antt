@@ -1,0 +1,93 @@
+-- `cut_out` takes a live key out of its segment, and the index is kept.
+use mathlib.Core.Path.{refl}
+use Rattle.shifts.proofs.Shifted.{shifted-out, shifted-first}
+use borrow.Author.Needs.{needs}
+use Rattle.shifts.proofs.cut_out.Statement.{statement}
+use Rattle.shifts.proofs.cut_out.Tie as tie
+
+mul-a : tie.Need-mul-a
+mul-a c = search needs
+
+add-e : tie.Need-add-e
+add-e c = search needs
+
+mul-close-gap : tie.Need-mul-close-gap
+mul-close-gap c = search needs
+
+sub-close-gap : tie.Need-sub-close-gap
+sub-close-gap c = search needs
+
+part-close-gap-start : tie.Need-part-close-gap-start
+part-close-gap-start c = search needs
+
+part-close-gap-end : tie.Need-part-close-gap-end
+part-close-gap-end c = search needs
+
+close-gap-requires : tie.Need-close-gap-requires
+close-gap-requires c κs = search needs
+
+sub-counts : tie.Need-sub-counts
+sub-counts c = search needs
+
+mul-counts : tie.Need-mul-counts
+mul-counts c = search needs
+
+slice-write-counts : tie.Need-slice-write-counts
+slice-write-counts c = search needs
+
+add-rebound : tie.Need-add-rebound
+add-rebound c = search needs
+
+rebound-requires : tie.Need-rebound-requires
+rebound-requires c κs = search needs
+
+same-length : tie.Need-same-length
+same-length c = search needs
+
+same-length-2 : tie.Need-same-length-2
+same-length-2 c = search needs
+
+same-length-3 : tie.Need-same-length-3
+same-length-3 c = search needs
+
+returns : tie.Need-returns
+returns c ss ix at t =
+    let st = c .before .before .before .before .before .before .before .before .before .before .before .before .before in
+    let a = st .args in
+    shifted-first (a .key) ss (a .list .now) (a .bounds .now) (a .counts .now) (a .place) ix at _ _ _ refl refl t (st .pre .0 .2) (c .before .before .before .before .before .before .before .before .close-gap .ensures) _ (c .before .before .rebound .ensures)
+
+same-length-4 : tie.Need-same-length-4
+same-length-4 c = search needs
+
+same-length-5 : tie.Need-same-length-5
+same-length-5 c = search needs
+
+returns-2 : tie.Need-returns-2
+returns-2 c ss ix at t =
+    let st = c .before .before .before .before .before .before .before .before in
+    let a = st .args in
+    shifted-out (a .key) ss (a .list .now) (a .bounds .now) (a .counts .now) (a .place) ix at _ _ _ refl refl t (st .pre .0 .2) (c .before .before .before .close-gap .ensures) (c .if1 .left)
+
+pub cut-out-spec : {M : Type 1} → statement M
+cut-out-spec =
+    tie.close
+    (tie.spec
+    mul-a
+    add-e
+    mul-close-gap
+    sub-close-gap
+    part-close-gap-start
+    part-close-gap-end
+    close-gap-requires
+    sub-counts
+    mul-counts
+    slice-write-counts
+    add-rebound
+    rebound-requires
+    same-length
+    same-length-2
+    same-length-3
+    returns
+    same-length-4
+    same-length-5
+    returns-2)

@@ -1,0 +1,29 @@
+-- `lookup` looks up, and writes the two words of its reply.
+use Rattle.stated.proofs.ReadGiven.{lookup-given}
+use borrow.Author.Needs.{needs}
+use Rattle.stated.proofs.lookup.Statement.{statement}
+use Rattle.stated.proofs.lookup.Tie as tie
+
+lookup-requires : tie.Need-lookup-requires
+lookup-requires c κs = search needs
+
+lookup-told-requires : tie.Need-lookup-told-requires
+lookup-told-requires c κs = search needs
+
+tell-two-requires : tie.Need-tell-two-requires
+tell-two-requires c κs = search needs
+
+same-length : tie.Need-same-length
+same-length c = search needs
+
+returns : tie.Need-returns
+returns c =
+    let s = c .before .before .before .before .before .before .before .before in
+    let found = c .before .before .before .before .before .lookup in
+    let told = c .before .before .before .before .lookup-told in
+    let tell = c .before .before .tell-two in
+    lookup-given (s .args .list .now) (s .args .key) (s .args .reply .now) (s .pre) (found .result) (told .result) (tell .result) _ (found .ensures) (told .ensures) (tell .ensures .0) (tell .ensures .1)
+
+pub lookup-spec : {M : Type 1} → statement M
+lookup-spec =
+    tie.close (tie.spec lookup-requires lookup-told-requires tell-two-requires same-length returns)

@@ -1,0 +1,33 @@
+-- `scan` writes the keys, and the two words of its reply.
+use Rattle.stated.proofs.ReadGiven.{scan-given}
+use borrow.Author.Needs.{needs}
+use Rattle.stated.proofs.scan.Statement.{statement}
+use Rattle.stated.proofs.scan.Tie as tie
+
+scan-requires : tie.Need-scan-requires
+scan-requires c κs = search needs
+
+scan-told-requires : tie.Need-scan-told-requires
+scan-told-requires c κs = search needs
+
+tell-two-requires : tie.Need-tell-two-requires
+tell-two-requires c κs = search needs
+
+same-length : tie.Need-same-length
+same-length c = search needs
+
+same-length-2 : tie.Need-same-length-2
+same-length-2 c = search needs
+
+returns : tie.Need-returns
+returns c =
+    let s = c .before .before .before .before .before .before .before .before .before .before .before .before in
+    let scanned = c .before .before .before .before .before .before .before .scan in
+    let told = c .before .before .before .before .scan-told in
+    let tell = c .before .before .tell-two in
+    scan-given (s .args .list .now) (s .args .from) (s .args .reply .now) (s .pre) (s .args .output .now) (scanned .result) (told .result) (tell .result) _ _ (scanned .ensures) (told .ensures) (tell .ensures .0) (tell .ensures .1)
+
+pub scan-spec : {M : Type 1} → statement M
+scan-spec =
+    tie.close
+    (tie.spec scan-requires scan-told-requires tell-two-requires same-length same-length-2 returns)

@@ -1,0 +1,83 @@
+-- Insert and delete: from what the calls below them promise to what they give, where the sizes fit.
+use Prim.Native.Nat.{ℕ, _≤_}
+use mathlib.Core.Path.{_≡_, sym, ap, _∙_}
+use mathlib.Core.Logic.{inl, inr, _≢_}
+use mathlib.Core.List.{List, [], _∷_}
+use native.Mathlib.Omega.{arith}
+use lib.Dec.{eqb, eqb→eq}
+use lib.ListN.{length}
+use Rattle.lists.proofs.Tests.{tested, neqb→ne}
+use Rattle.forecast.specs.declared.Forecast.{Forecast}
+use Rattle.rules.specs.declared.Request.{Request}
+use Rattle.rules.specs.declared.Request.the-variants.{Insert, Delete}
+use Rattle.rules.specs.Placing.{Answer}
+use Rattle.rules.specs.Calls as rules
+use Rattle.rules.specs.Rows.{insertRows, deleteRows}
+use Rattle.rules.proofs.Refusals.Numbers as below
+use Rattle.answers.specs.declared.InsertReply.{InsertReply}
+use Rattle.answers.specs.declared.DeleteReply.{DeleteReply}
+use Rattle.answers.specs.Admits.{InsertAdmits, DeleteAdmits}
+use Rattle.answers.specs.Answers.{insertPaper, deletePaper}
+use Rattle.given.specs.Calls.{insert, delete, over, Gives}
+use Rattle.given.proofs.Leaves.{small}
+use Rattle.telling.specs.Told.{answerWords}
+use Rattle.words.specs.Words.{forecastIn, forecastWords, saturated}
+use Rattle.words.proofs.WordLaws.{words-again, forecastIn-roomy}
+use Rattle.words.proofs.Called.{request-same}
+use Rattle.posts.specs.Posts.{oneWord, twoWords, Posted}
+use Rattle.replies.specs.Back.{worksOn, handedBack}
+use Rattle.replies.proofs.Back.{works-not, handed, kept}
+use Rattle.worded.proofs.Fitted.{both-fitted}
+
+-- A REQUEST on the forecast that the words show: its answer, the slots left, and the words left. They are the same where the request
+-- is done, and where it is refused those lent are left.
+module _ (q : Request) (list forecast : List ℕ) where
+  abbrev C : rules.Called
+  C = rules.request q list (forecastIn forecast)
+
+  record Asked (a : Answer) (list' forecast' : List ℕ) : Type 0 where
+    answer : a ≡ C .answer
+    slots : list' ≡ C .slots
+    words : forecast' ≡ forecastWords (C .forecast)
+
+  asked : (F G : Forecast) (a : Answer) (n : ℕ) (list' forecast' : List ℕ) → length forecast ≡ 37 → C .answer .number ≤ 8 → F ≡ saturated (forecastIn forecast)
+      → a ≡ rules.request q list F .answer → G ≡ rules.request q list F .forecast → list' ≡ rules.request q list F .slots
+      → n ≡ a .number → forecast' ≡ handedBack n G forecast → Asked a list' forecast'
+  asked F G a n list' forecast' l few f ea eg es en w =
+      let is : rules.request q list F ≡ rules.request q list (saturated (forecastIn forecast)) = ap (rules.request q list) f in
+      let same = request-same q list (forecastIn forecast) (forecastIn-roomy forecast) in
+      let answer = ea ∙ ap (λ (c : rules.Called). c .answer) is ∙ same .answer in
+      let number : n ≡ C .answer .number = en ∙ ap (λ (x : Answer). x .number) answer in
+      record {
+        answer = answer;
+        slots = es ∙ ap (λ (c : rules.Called). c .slots) is ∙ same .slots;
+        words = elim (tested (eqb n 0)) [
+          | inl d ↦
+              (let z : n ≡ 0 = eqb→eq n 0 d in
+              w ∙ handed n G forecast (ap worksOn z) ∙ ap forecastWords (eg ∙ ap (λ (c : rules.Called). c .forecast) is ∙ same .done (sym number ∙ z)))
+          | inr d ↦
+              (let z : n ≢ 0 = neqb→ne n 0 d in
+              w ∙ kept n G forecast (works-not n (omega (arith, z)) (omega (arith, number, few))) ∙ sym (ap forecastWords (same .left (λ y. z (number ∙ y))) ∙ words-again forecast l))
+        ];
+      }
+
+module _ (list forecast : List ℕ) (key : ℕ) (reply : List ℕ) (l : length forecast ≡ 37) where
+  pub insert-given : (F : Forecast) (k : InsertReply) (n : ℕ) (list' forecast' reply' : List ℕ) → 1 ≤ length reply → F ≡ saturated (forecastIn forecast)
+      → InsertAdmits list F key k list' → Posted oneWord (answerWords (insertPaper (k .answer))) (k .forecast) forecast reply n forecast' reply'
+      → Gives (insert list forecast key reply) n (list' ∷ forecast' ∷ reply' ∷ [])
+  unfolding insert
+  insert-given F k n list' forecast' reply' m f a p =
+      let few = small 8 (insertRows list (forecastIn forecast) key) _ (omega arith) (below.insert-tells list (forecastIn forecast) key (forecastIn-roomy forecast)) in
+      let d = asked (Insert key) list forecast F (k .forecast) (insertPaper (k .answer)) n list' forecast' l few f (a .answer) (a .forecast) (a .slots-left) (p .number) (p .forecast-left) in
+      let said = p .reply-left ∙ ap (λ (x : Answer). over (oneWord (answerWords x)) reply) (d .answer) in
+      both-fitted forecast reply 1 _ _ _ _ l m (record { number = p .number ∙ ap (λ (x : Answer). x .number) (d .answer); slices = λ i. d .slots i ∷ d .words i ∷ said i ∷ [] })
+
+  pub delete-given : (F : Forecast) (k : DeleteReply) (n : ℕ) (list' forecast' reply' : List ℕ) → 2 ≤ length reply → F ≡ saturated (forecastIn forecast)
+      → DeleteAdmits list F key k list' → Posted twoWords (answerWords (deletePaper (k .answer))) (k .forecast) forecast reply n forecast' reply'
+      → Gives (delete list forecast key reply) n (list' ∷ forecast' ∷ reply' ∷ [])
+  unfolding delete
+  delete-given F k n list' forecast' reply' m f a p =
+      let few = small 8 (deleteRows list (forecastIn forecast) key) _ (omega arith) (below.delete-tells list (forecastIn forecast) key (forecastIn-roomy forecast)) in
+      let d = asked (Delete key) list forecast F (k .forecast) (deletePaper (k .answer)) n list' forecast' l few f (a .answer) (a .forecast) (a .slots-left) (p .number) (p .forecast-left) in
+      let said = p .reply-left ∙ ap (λ (x : Answer). over (twoWords (answerWords x)) reply) (d .answer) in
+      both-fitted forecast reply 2 _ _ _ _ l m (record { number = p .number ∙ ap (λ (x : Answer). x .number) (d .answer); slices = λ i. d .slots i ∷ d .words i ∷ said i ∷ [] })

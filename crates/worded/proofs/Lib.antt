@@ -1,0 +1,3 @@
+pub mod Fitted
+pub mod ChangeGiven
+pub mod RunGiven

@@ -1,0 +1,80 @@
+-- The run: from what the run below it promises to what it gives, where the sizes fit.
+use Prim.Native.Nat.{ℕ, _≤_}
+use mathlib.Core.Path.{_≡_, sym, ap, _∙_}
+use mathlib.Core.Logic.{inl, inr, _≢_}
+use mathlib.Core.Bool.{true, false}
+use mathlib.Core.List.{List, [], _∷_}
+use native.Mathlib.Omega.{arith}
+use lib.Dec.{eqb, eqb→eq}
+use lib.ListN.{length}
+use Rattle.lists.proofs.Tests.{tested, neqb→ne}
+use Rattle.forecast.specs.declared.Forecast.{Forecast}
+use Rattle.rules.specs.declared.Tally.{Tally}
+use Rattle.rules.specs.declared.Totals.{Totals}
+use Rattle.rules.specs.Calls as rules
+use Rattle.rules.specs.Checks as checks
+use Rattle.rules.specs.Rows.{Tells, bothRows, stopRows}
+use Rattle.rules.proofs.Refusals.Numbers as below
+use Rattle.rules.proofs.Running.Singly as singly
+use Rattle.told.specs.declared.ToldRun.{ToldRun}
+use Rattle.told.specs.Tells.{RunTells}
+use Rattle.words.specs.Words.{forecastIn, forecastWords, saturated}
+use Rattle.words.specs.Totals.{totalsIn, totalsWords}
+use Rattle.words.proofs.WordLaws.{words-again, forecastIn-roomy}
+use Rattle.words.proofs.Called.{run-same}
+use Rattle.given.specs.Calls.{run, over, replyWords, Gives}
+use Rattle.given.proofs.Leaves.{small}
+use Rattle.posts.specs.Posts.{RunPosted}
+use Rattle.replies.specs.Back.{worksOn, handedBack}
+use Rattle.replies.proofs.Back.{works-not, handed, kept}
+use Rattle.worded.proofs.Fitted.{all-fitted}
+
+module _ (list forecast requests : List ℕ) (allowance : ℕ) (totals reply : List ℕ) where
+  abbrev W : rules.Worked
+  W = rules.run list (forecastIn forecast) requests allowance (totalsIn totals)
+
+  -- a checked run stops by 0, 9 or 10
+  late : checks.check list (forecastIn forecast) ≡ 0 → worksOn (W .reply .stop) ≡ true
+  late z = stops (singly.run-tells list (forecastIn forecast) requests allowance (totalsIn totals) z .0)
+    where
+      stops : Tells (stopRows requests allowance W) (W .reply .stop) → worksOn (W .reply .stop) ≡ true
+      stops (inl (u, e)) = ap worksOn e
+      stops (inr (u, inl (v, e))) = ap worksOn e
+      stops (inr (u, inr (v, e))) = ap worksOn e
+
+  -- one that is refused at once, by a number of the check
+  early : checks.check list (forecastIn forecast) ≢ 0 → worksOn (checks.check list (forecastIn forecast)) ≡ false
+  early z =
+      let few : checks.check list (forecastIn forecast) ≤ 8 = small 8 (bothRows list (forecastIn forecast)) _ (omega arith) (below.check-tells list (forecastIn forecast) (forecastIn-roomy forecast)) in
+      works-not (checks.check list (forecastIn forecast)) (omega (arith, z)) few
+
+  -- the words written are the same where the run is worked, and where it is refused at once those lent are left
+  back : (n : ℕ) (G : Forecast) → length forecast ≡ 37 → n ≡ W .reply .stop
+      → G ≡ rules.run list (saturated (forecastIn forecast)) requests allowance (totalsIn totals) .forecast → handedBack n G forecast ≡ forecastWords (W .forecast)
+  back n G l e g =
+      let same = run-same list (forecastIn forecast) requests allowance (totalsIn totals) (forecastIn-roomy forecast) in
+      elim (tested (eqb (checks.check list (forecastIn forecast)) 0)) [
+        | inl t ↦
+            (let z : checks.check list (forecastIn forecast) ≡ 0 = eqb→eq _ _ t in
+            handed n G forecast (ap worksOn e ∙ late z) ∙ ap forecastWords (g ∙ same .done z))
+        | inr t ↦
+            (let z : checks.check list (forecastIn forecast) ≢ 0 = neqb→ne _ _ t in
+            let q = same .left z in
+            kept n G forecast (ap worksOn (e ∙ q .1) ∙ early z) ∙ sym (ap forecastWords (q .0) ∙ words-again forecast l))
+      ]
+
+  pub run-given : (F : Forecast) (T : Totals) (k : ToldRun) (list' forecast' totals' reply' : List ℕ) → length forecast ≡ 37 → length totals ≡ 4 → 4 ≤ length reply
+      → F ≡ saturated (forecastIn forecast) → T ≡ totalsIn totals → RunTells list F requests allowance T k list'
+      → RunPosted (k .told .stop) (k .told .forecast) (k .told .tally) (k .totals) forecast reply forecast' totals' reply'
+      → Gives (run list forecast requests allowance totals reply) (k .told .stop) (list' ∷ forecast' ∷ totals' ∷ reply' ∷ [])
+  unfolding run
+  run-given F T k list' forecast' totals' reply' l m n f g a p =
+      let is : rules.run list F requests allowance T ≡ rules.run list (saturated (forecastIn forecast)) requests allowance (totalsIn totals) = λ i. rules.run list (f i) requests allowance (g i) in
+      let same = run-same list (forecastIn forecast) requests allowance (totalsIn totals) (forecastIn-roomy forecast) in
+      let slots = a .slots-left ∙ ap (λ (w : rules.Worked). w .slots) is ∙ same .slots-left in
+      let stop = a .stop ∙ ap (λ (w : rules.Worked). w .reply .stop) is ∙ ap (λ (x : rules.Reply). x .stop) (same .reply) in
+      let words = p .forecast-left ∙ back (k .told .stop) (k .told .forecast) l stop (a .forecast ∙ ap (λ (w : rules.Worked). w .forecast) is) in
+      let sums = p .totals-left ∙ ap totalsWords (a .totals ∙ ap (λ (w : rules.Worked). w .totals) is ∙ same .totals) in
+      let tally = a .tally ∙ ap (λ (w : rules.Worked). w .reply .tally) is ∙ ap (λ (x : rules.Reply). x .tally) (same .reply) in
+      let said = p .reply-left ∙ ap (λ (t : Tally). over (replyWords t) reply) tally in
+      all-fitted forecast totals reply _ _ _ _ l m n (record { number = stop; slices = λ i. slots i ∷ words i ∷ sums i ∷ said i ∷ [] })

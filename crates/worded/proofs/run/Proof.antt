@@ -1,0 +1,53 @@
+-- `run`: the run on the forecast and totals that the words show, then the words of the reply, of the totals and of the forecast.
+use Rattle.worded.proofs.RunGiven.{run-given}
+use borrow.Author.Needs.{needs}
+use Rattle.worded.proofs.run.Statement.{statement}
+use Rattle.worded.proofs.run.Tie as tie
+
+read-forecast-requires : tie.Need-read-forecast-requires
+read-forecast-requires c κs = search needs
+
+read-totals-requires : tie.Need-read-totals-requires
+read-totals-requires c κs = search needs
+
+run-told-requires : tie.Need-run-told-requires
+run-told-requires c κs = search needs
+
+post-run-requires : tie.Need-post-run-requires
+post-run-requires c κs = search needs
+
+same-length : tie.Need-same-length
+same-length c = search needs
+
+same-length-2 : tie.Need-same-length-2
+same-length-2 c = search needs
+
+same-length-3 : tie.Need-same-length-3
+same-length-3 c = search needs
+
+same-length-4 : tie.Need-same-length-4
+same-length-4 c = search needs
+
+returns : tie.Need-returns
+returns c =
+    let s = c .before .before .before .before .before .before .before .before .before .before .before .before .before .before .before .before .before .before .before .before .before .before .before .before .before in
+    let a = s .args in
+    let forecast = c .before .before .before .before .before .before .before .before .before .before .before .before .before .before .before .before .before .before .read-forecast in
+    let totals = c .before .before .before .before .before .before .before .before .before .before .before .before .before .before .before .before .read-totals in
+    let ran = c .before .before .before .before .before .before .before .before .before .before .before .before .before .before .run-told in
+    run-given (a .list .now) (a .forecast .now) (a .requests .now) (a .allowance) (a .totals .now) (a .reply .now) (forecast .result) (totals .result) (ran .result) _ _ _ _ (s .pre .0) (s .pre .1) (s .pre .2)
+    (forecast .ensures) (totals .ensures) (ran .ensures) (c .before .before .before .before .before .before .post-run .ensures)
+
+pub run-spec : {M : Type 1} → statement M
+run-spec =
+    tie.close
+    (tie.spec
+    read-forecast-requires
+    read-totals-requires
+    run-told-requires
+    post-run-requires
+    same-length
+    same-length-2
+    same-length-3
+    same-length-4
+    returns)

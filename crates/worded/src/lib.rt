@@ -1,0 +1,49 @@
+// Insert, delete and run with forecast and totals as words, on what has the sizes that the call lists.
+ghost use mathlib.Core.Path.{_≡_};
+ghost use mathlib.Core.List.{[], _∷_};
+ghost use Prim.Native.Nat.{_≤_};
+ghost use lib.ListN.{length};
+ghost use Rattle.given.specs.Calls.{Gives};
+ghost use Rattle.given.specs.Calls as calls;
+
+// Puts a new key in.
+pub fn insert(list: &mut [u64], forecast: &mut [u64], key: u64, reply: &mut [u64]) -> u64
+    requires { ⌜ (length (now forecast) ≡ 37) × (1 ≤ length (now reply)) ⌝ }
+    ensures { λ r. ⌜ Gives (calls.insert (now (list .entry)) (now (forecast .entry)) key (now (reply .entry))) r (now (list .exit) ∷ now (forecast .exit) ∷ now (reply .exit) ∷ []) ⌝ }
+{
+    let given = words::read_forecast(forecast);
+    let done = list::changing::insert(list, given, key);
+    posts::post_insert(done, forecast, reply)
+}
+
+// Takes a live key out.
+pub fn delete(list: &mut [u64], forecast: &mut [u64], key: u64, reply: &mut [u64]) -> u64
+    requires { ⌜ (length (now forecast) ≡ 37) × (2 ≤ length (now reply)) ⌝ }
+    ensures { λ r. ⌜ Gives (calls.delete (now (list .entry)) (now (forecast .entry)) key (now (reply .entry))) r (now (list .exit) ∷ now (forecast .exit) ∷ now (reply .exit) ∷ []) ⌝ }
+{
+    let given = words::read_forecast(forecast);
+    let done = list::changing::delete(list, given, key);
+    posts::post_delete(done, forecast, reply)
+}
+
+// Works request records, within an allowance of moves.
+pub fn run(
+    list: &mut [u64],
+    forecast: &mut [u64],
+    requests: &[u8],
+    allowance: u64,
+    totals: &mut [u32],
+    reply: &mut [u64],
+) -> u64
+    requires { ⌜ (length (now forecast) ≡ 37) × (length (now totals) ≡ 4) × (4 ≤ length (now reply)) ⌝ }
+    ensures { λ r. ⌜ Gives (calls.run (now (list .entry)) (now (forecast .entry)) (now (requests .entry)) allowance (now (totals .entry)) (now (reply .entry))) r (now (list .exit) ∷ now (forecast .exit) ∷ now (totals .exit) ∷ now (reply .exit) ∷ []) ⌝ }
+{
+    let given = words::read_forecast(forecast);
+    let before = words::totals::read_totals(totals);
+    let ran = told::run_told(list, given, requests, allowance, before);
+    let done = ran.told;
+    let stop = done.stop;
+    let left = done.forecast;
+    posts::post_run(stop, left, done.tally, ran.totals, forecast, totals, reply);
+    stop
+}

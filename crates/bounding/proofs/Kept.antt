@@ -1,5 +1,5 @@
 -- The index of a list is kept: built once, and after a key put in, taken out, or a window swept.
-use mathlib.Core.Path.{_≡_, ap, _∙_}
+use mathlib.Core.Path.{_≡_, refl, ap, _∙_}
 use mathlib.Core.Bool.{not}
 use mathlib.Core.List.{List, []}
 use Prim.Native.Nat.{ℕ, _+_, _≤_, _<_}
@@ -52,6 +52,21 @@ module _ (ss : Segments) (list bounds counts : List ℕ) (ix : Indexed ss list b
       indexed-set list′ bounds (seat y ss) (put y (getD ss (seat y ss) [])) v (seat-between y ss (ix .shows .listed) (ix .some) .0) e sh
       (put-kept y ss (ix .shows .listed) (ix .some) t bounds (ix .bound))
 
+-- A window of n segments from i on, written anew, with counts, after segment s of it had become `new`.
+pub record Resown (ss : Segments) : Type 0 where
+  pub s : ℕ
+  pub new : List ℕ
+  pub i : ℕ
+  pub n : ℕ
+  pub window : Segments
+  pub counts : List ℕ
+  pub from : i ≤ s
+  pub to : s < i + n
+  pub many : length window ≡ n
+  pub counted : length counts ≡ n
+  pub within : i + n ≤ length ss
+  pub each : (k : ℕ) → k < length window → getD counts k 0 ≡ length (getD window k [])
+
 -- what `rebound` promises, at a changed segment and at a swept window
 module _ (ss : Segments) (list bounds counts : List ℕ) (ix : Indexed ss list bounds counts) (list′ bounds′ : List ℕ) where
   -- a key taken out, or any change of one segment: rebound(list, bounds, s, s + 1)
@@ -63,20 +78,31 @@ module _ (ss : Segments) (list bounds counts : List ℕ) (ix : Indexed ss list b
       (promise 1 (set ss s new) (omega arith) sh (omega (arith, length-set ss s new, ix .few)) (near-one 1 ss bounds s new (ix .bound)))
 
   -- a window swept with one segment of it changed before: rebound(list, bounds, i, i + n)
-  pub indexed-swept : (s : ℕ) (new : List ℕ) (v i n : ℕ) (window : Segments) (ns : List ℕ) → i ≤ s → s < i + n → v ≡ length new → length window ≡ n → length ns ≡ n → i + n ≤ length ss
-      → ((k : ℕ) → k < length window → getD ns k 0 ≡ length (getD window k [])) → Shows (splice i n window (set ss s new)) list′
-      → ((m : ℕ) (zs : Segments) → m ≤ i + n → Shows zs list′ → length zs ≤ 64 → Near m zs i (i + n) bounds → Bounded m zs bounds′)
-      → Indexed (splice i n window (set ss s new)) list′ bounds′ (splice i n ns (set counts s v))
-  indexed-swept s new v i n window ns l h q e f u w sh promise =
-      record {
-        shows = sh;
-        some = omega (arith, same, ix .some);
-        few = omega (arith, same, ix .few);
-        bound = promise 1 (splice i n window (set ss s new)) (omega arith) sh (omega (arith, same, ix .few)) (near-swept 1 ss bounds s new i n window (ix .bound) l h e u);
-        long = omega (arith, same, length-splice i n ns (set counts s v) f (omega (arith, length-set counts s v, ix .long)), length-set counts s v, ix .long);
-        count = counts-splice (set ss s new) (set counts s v) (counts-set ss counts (ix .count) s new v (omega arith) (omega (arith, ix .long)) q) i n window ns e f
-            (omega (arith, length-set ss s new)) (omega (arith, length-set counts s v, ix .long)) w;
-      }
-    where
-      same : length (splice i n window (set ss s new)) ≡ length ss
-      same = length-splice i n window (set ss s new) e (omega (arith, length-set ss s new)) ∙ length-set ss s new
+  module _ (x : Resown ss) where
+    abbrev left : Segments
+    left = splice (x .i) (x .n) (x .window) (set ss (x .s) (x .new))
+
+    pub indexed-swept : Shows (splice (x .i) (x .n) (x .window) (set ss (x .s) (x .new))) list′
+        → ((m : ℕ) (zs : Segments) → m ≤ x .i + x .n → Shows zs list′ → length zs ≤ 64 → Near m zs (x .i) (x .i + x .n) bounds → Bounded m zs bounds′)
+        → Indexed (splice (x .i) (x .n) (x .window) (set ss (x .s) (x .new))) list′ bounds′ (splice (x .i) (x .n) (x .counts) (set counts (x .s) (length (x .new))))
+    indexed-swept sh promise =
+        record {
+          shows = sh;
+          some = omega (arith, same, ix .some);
+          few = omega (arith, same, ix .few);
+          bound = promise 1 left (omega (arith, x .to)) sh (omega (arith, same, ix .few))
+              (near-swept 1 ss bounds (x .s) (x .new) (x .i) (x .n) (x .window) (ix .bound) (x .from) (x .to) (x .many) (x .within));
+          long = omega (arith, same, length-splice (x .i) (x .n) (x .counts) held (x .counted) (omega (arith, x .within, held-long, ix .long)), held-long, ix .long);
+          count = counts-splice (set ss (x .s) (x .new)) held
+              (counts-set ss counts (ix .count) (x .s) (x .new) (length (x .new)) (omega (arith, x .to, x .within)) (omega (arith, x .to, x .within, ix .long)) refl)
+              (x .i) (x .n) (x .window) (x .counts) (x .many) (x .counted) (omega (arith, x .within, length-set ss (x .s) (x .new))) (omega (arith, x .within, held-long, ix .long)) (x .each);
+        }
+      where
+        held : List ℕ
+        held = set counts (x .s) (length (x .new))
+
+        held-long : length (set counts (x .s) (length (x .new))) ≡ length counts
+        held-long = length-set counts (x .s) (length (x .new))
+
+        same : length (splice (x .i) (x .n) (x .window) (set ss (x .s) (x .new))) ≡ length ss
+        same = length-splice (x .i) (x .n) (x .window) (set ss (x .s) (x .new)) (x .many) (omega (arith, x .within, length-set ss (x .s) (x .new))) ∙ length-set ss (x .s) (x .new)

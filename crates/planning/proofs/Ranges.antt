@@ -38,11 +38,18 @@ module _ (half low high m : ℕ) where
     pub scan-ranged : (r : ℕ) → first ≤ r → r ≤ last → Ranged r
     scan-ranged r p q = omega arith
 
+  -- the numbers from f to t are those tried, with the sizes and shares of a window of level l + 1
+  pub record Tried (S : Shares) (l f t : ℕ) : Type 0 where
+    pub from : f ≡ first
+    pub to : t ≡ last
+    pub size : half ≡ 2 ^ l
+    pub least-is : low ≡ S .low (suc l)
+    pub most-is : high ≡ S .high (suc l)
+
   -- the rules' share, with no weight and with some
   module _ (S : Shares) (l front : ℕ) (ws : List ℕ) (long : length ws ≡ m) where
     pub even-is : front + total ws ≡ 0 → (m + 1) / 2 ≡ leftShare S l front ws
     even-is e = sym (share-even S l front ws e ∙ ap (λ (n : ℕ). (n + 1) / 2) long)
 
-    pub scan-is : (r f t : ℕ) → f ≡ first → t ≡ last → half ≡ 2 ^ l → low ≡ S .low (suc l) → high ≡ S .high (suc l) → front + total ws ≢ 0
-        → r ≡ least (formula6 (64 * half) front ws) f (t - f) → r ≡ leftShare S l front ws
-    scan-is r f t p q a b c n e = e ∙ rw (p, q, a, b, c, ← long) (sym (share-least S l front ws n))
+    pub scan-is : (r f t : ℕ) → Tried S l f t → front + total ws ≢ 0 → r ≡ least (formula6 (64 * half) front ws) f (t - f) → r ≡ leftShare S l front ws
+    scan-is r f t x n e = e ∙ rw (x .from, x .to, x .size, x .least-is, x .most-is, ← long) (sym (share-least S l front ws n))

@@ -33,29 +33,32 @@ module _ {A : Type 0} where
       ∙ ap (λ (t : List A). without at xs ++ z ∷ t) (drop-padded 64 z xs n (omega arith))
       ∙ ap (λ (m : ℕ). without at xs ++ replicate m z) e
 
-module _ {A : Type 0} (z : A) where
-  module _ (ss : List (List A)) (s n at : ℕ) (fits : All (λ x. length x ≤ 64) ss) (h : s < length ss) (c : n ≡ length (getD ss s [])) where
-    -- put in
-    pub opened-in : (v : A) → at ≤ n → n < 64 → inPart (64 * s) (64 * s + 64) (opened n at v) (render z ss) ≡ render z (set ss s (insertAt at v (getD ss s [])))
-    opened-in v p q =
-        in-segment z ss s (opened n at v) (insertAt at v (getD ss s [])) fits h
-        (ap (λ (m : ℕ). opened m at v (pad z (getD ss s []))) c ∙ opened-pad z (getD ss s []) at v (omega arith) (omega arith))
+-- Slots a to e of l are segment s of ss, which holds n keys; z is a gap.
+pub record Lies {A : Type 0} (z : A) (ss : List (List A)) (s n a e : ℕ) (l : List A) : Type 0 where
+  pub fits : All (λ x. length x ≤ 64) ss
+  pub inside : s < length ss
+  pub held : n ≡ length (getD ss s [])
+  pub whole : l ≡ render z ss
+  pub begins : a ≡ 64 * s
+  pub ends : e ≡ a + 64
 
-    -- taken out
-    pub closed-in : at < n → inPart (64 * s) (64 * s + 64) (closed z n at) (render z ss) ≡ render z (set ss s (without at (getD ss s [])))
-    closed-in p =
-        in-segment z ss s (closed z n at) (without at (getD ss s [])) fits h
-        (ap (λ (m : ℕ). closed z m at (pad z (getD ss s []))) c ∙ closed-pad z (getD ss s []) at (omega arith) (fits (getD ss s []) (at-mem ss s [] h)))
+-- a lent segment as it comes back
+module _ {A : Type 0} (z : A) (ss : List (List A)) (s n a e : ℕ) (l : List A) (x : Lies z ss s n a e l) (at : ℕ) (last : List A) where
+  to-segment : (f : List A → List A) → last ≡ f (take (e - a) (drop a l)) → putMid a (e - a) l last ≡ inPart (64 * s) (64 * s + 64) f (render z ss)
+  to-segment f r =
+      let k : e ≡ 64 * s + 64 = omega (arith, x .begins, x .ends) in
+      put-part a e f l last (omega (arith, x .ends)) r ∙ ap (inPart a e f) (x .whole) ∙ ap₂ (λ (a e : ℕ). inPart a e f (render z ss)) (x .begins) k
 
-    -- the same, as the lent part comes back
-    module _ (a e : ℕ) (l last : List A) (w : l ≡ render z ss) (start : a ≡ 64 * s) (end : e ≡ a + 64) where
-      to-segment : (f : List A → List A) → last ≡ f (take (e - a) (drop a l)) → putMid a (e - a) l last ≡ inPart (64 * s) (64 * s + 64) f (render z ss)
-      to-segment f r =
-          let k : e ≡ 64 * s + 64 = omega arith in
-          put-part a e f l last (omega arith) r ∙ ap (inPart a e f) w ∙ ap₂ (λ (a e : ℕ). inPart a e f (render z ss)) start k
+  -- put in
+  pub opened-put : (v : A) → at ≤ n → n < 64 → last ≡ opened n at v (take (e - a) (drop a l)) → putMid a (e - a) l last ≡ render z (set ss s (insertAt at v (getD ss s [])))
+  opened-put v p q r =
+      to-segment (opened n at v) r
+      ∙ in-segment z ss s (opened n at v) (insertAt at v (getD ss s [])) (x .fits) (x .inside)
+      (ap (λ (m : ℕ). opened m at v (pad z (getD ss s []))) (x .held) ∙ opened-pad z (getD ss s []) at v (omega (arith, x .held)) (omega (arith, x .held)))
 
-      pub opened-put : (v : A) → at ≤ n → n < 64 → last ≡ opened n at v (take (e - a) (drop a l)) → putMid a (e - a) l last ≡ render z (set ss s (insertAt at v (getD ss s [])))
-      opened-put v p q r = to-segment (opened n at v) r ∙ opened-in v p q
-
-      pub closed-put : at < n → last ≡ closed z n at (take (e - a) (drop a l)) → putMid a (e - a) l last ≡ render z (set ss s (without at (getD ss s [])))
-      closed-put p r = to-segment (closed z n at) r ∙ closed-in p
+  -- taken out
+  pub closed-put : at < n → last ≡ closed z n at (take (e - a) (drop a l)) → putMid a (e - a) l last ≡ render z (set ss s (without at (getD ss s [])))
+  closed-put p r =
+      to-segment (closed z n at) r
+      ∙ in-segment z ss s (closed z n at) (without at (getD ss s [])) (x .fits) (x .inside)
+      (ap (λ (m : ℕ). closed z m at (pad z (getD ss s []))) (x .held) ∙ closed-pad z (getD ss s []) at (omega (arith, x .held)) (x .fits (getD ss s []) (at-mem ss s [] (x .inside))))

@@ -21,7 +21,7 @@ use Rattle.slots.proofs.ByPlace.{put-at, cut-at}
 use Rattle.slots.proofs.Seats.{seat-between, seat-member}
 use Rattle.seats.specs.Bounds.{Bounded, Near, Indexed}
 use Rattle.bounding.proofs.Changes.{cut-behind}
-use Rattle.shifts.proofs.InSegment.{opened-put, closed-put}
+use Rattle.shifts.proofs.InSegment.{Lies, opened-put, closed-put}
 use Rattle.bounding.proofs.Kept.{indexed-set, indexed-put, indexed-one}
 
 module _ (y : ℕ) (ss : Segments) (list bounds counts : List ℕ) (p : Place) (ix : Indexed ss list bounds counts) (at : Located y ss p) where
@@ -39,8 +39,15 @@ module _ (y : ℕ) (ss : Segments) (list bounds counts : List ℕ) (p : Place) (
 
   -- the slots, as a lent segment comes back
   module _ (a e : ℕ) (last : List ℕ) (start : a ≡ 64 * p .segment) (end : e ≡ a + 64) where
-    start′ : a ≡ 64 * seat y ss
-    start′ = start ∙ ap (λ (k : ℕ). 64 * k) (at .segment)
+    lies : Lies 0 ss s (p .held) a e list
+    lies = record {
+      fits = ix .shows .fits;
+      inside = inside;
+      held = at .held;
+      whole = ix .shows .whole;
+      begins = start ∙ ap (λ (k : ℕ). 64 * k) (at .segment);
+      ends = end;
+    }
 
     -- A NEW KEY
     module _ (t : T (not (member y (keys ss)))) (key : 0 < y) (low : p .at ≤ p .held) (room : p .held < 64) (r : last ≡ opened (p .held) (p .at) y (take (e - a) (drop a list))) where
@@ -54,7 +61,7 @@ module _ (y : ℕ) (ss : Segments) (list bounds counts : List ℕ) (p : Place) (
       shows =
           record {
             whole =
-                opened-put 0 ss s (p .held) (p .at) (ix .shows .fits) inside (at .held) a e list last (ix .shows .whole) start′ end y low room r
+                opened-put 0 ss s (p .held) a e list lies (p .at) last y low room r
                 ∙ ap (λ (k : ℕ). render 0 (set ss s (insertAt k y old))) (at .at) ∙ ap (λ (l : List ℕ). render 0 (set ss s l)) (sym (put-at y old rises fresh));
             fits = λ x m. elim (mem-set ss s (put y old) x inside m) [ inl q ↦ rw q (omega (arith, many)) | inr q ↦ ix .shows .fits x q ];
             listed = record {
@@ -78,7 +85,7 @@ module _ (y : ℕ) (ss : Segments) (list bounds counts : List ℕ) (p : Place) (
       left =
           record {
             whole =
-                closed-put 0 ss s (p .held) (p .at) (ix .shows .fits) inside (at .held) a e list last (ix .shows .whole) start′ end low r
+                closed-put 0 ss s (p .held) a e list lies (p .at) last low r
                 ∙ ap (λ (k : ℕ). render 0 (set ss s (without k old))) (at .at) ∙ ap (λ (l : List ℕ). render 0 (set ss s l)) (sym (cut-at y old rises (member→mem y old there)));
             fits = λ x m. elim (mem-set ss s (cut y old) x inside m) [
               | inl q ↦ rw q (omega (arith, few, at .held, ix .shows .fits old (at-mem ss s [] inside)))

@@ -14,6 +14,17 @@ use Rattle.moves.proofs.Fronts.{part-alike}
 use Rattle.spreads.proofs.Packing.{total-bound}
 use Rattle.spreads.proofs.Laying.{Laid, laid-front, laid-down}
 
+-- Where the laying of m keys, the one at p put in on the way, has come to: segment s is next, and so many of the keys are not yet laid.
+pub record Laying {A : Type 0} (counts : List ℕ) (l : List A) (m p s at : ℕ) : Type 0 where
+  pub some : 0 < s
+  pub up-to : s ≤ length counts
+  pub long : length l ≡ 64 * length counts
+  pub fits : (k : ℕ) → getD counts k 0 ≤ 64
+  pub sum : at ≡ total (take s counts)
+  pub held : at ≤ m
+  pub room : m ≤ length l
+  pub among : p < m
+
 module _ {A : Type 0} (v : A) where
   -- WITH v PUT IN at place p: past it, before it, and up to a place
   insert-past : (p a : ℕ) (xs : List A) → p ≤ a → drop (suc a) (insertAt p v xs) ≡ drop a xs
@@ -105,14 +116,14 @@ module _ {A : Type 0} (v : A) where
           ∙ sym (ap (λ (t : List A). take to w ++ t ++ D) part-with)
 
   -- ONE SEGMENT MORE laid out, from the window w where those from s on are
-  pub laid-in : (z : A) (cs : List ℕ) (l w w₁ w₂ : List A) (m p s at : ℕ) → 0 < s → s ≤ length cs → length l ≡ 64 * length cs → ((k : ℕ) → getD cs k 0 ≤ 64) → at ≡ total (take s cs) → at ≤ m → m ≤ length l
-      → p < m → w ≡ Laid z cs (take m (insertAt p v l)) l s at → w₁ ≡ paste w (64 * (s - 1)) (drop (at - getD cs (s - 1) 0) (insertAt p v w)) (getD cs (s - 1) 0)
+  pub laid-in : (z : A) (cs : List ℕ) (l w w₁ w₂ : List A) (m p s at : ℕ) → Laying cs l m p s at → w ≡ Laid z cs (take m (insertAt p v l)) l s at
+      → w₁ ≡ paste w (64 * (s - 1)) (drop (at - getD cs (s - 1) 0) (insertAt p v w)) (getD cs (s - 1) 0)
       → w₂ ≡ cleared (64 * (s - 1) + getD cs (s - 1) 0) (64 * (s - 1) + 64) z w₁ → w₂ ≡ Laid z cs (take m (insertAt p v l)) l (s - 1) (at - getD cs (s - 1) 0)
-  laid-in z cs l w w₁ w₂ m p s at h i e fits q a k b r r₁ r₂ =
+  laid-in z cs l w w₁ w₂ m p s at x r r₁ r₂ =
       r₂ ∙ ap (cleared (64 * (s - 1) + getD cs (s - 1) 0) (64 * (s - 1) + 64) z) (r₁ ∙ ap (λ (t : List A). paste t (64 * (s - 1)) (drop (at - getD cs (s - 1) 0) (insertAt p v w)) (getD cs (s - 1) 0)) r)
-      ∙ laid-down z cs (take m (insertAt p v l)) l (insertAt p v w) s at h i e fits q (omega (arith, length-take m (insertAt p v l), length-insertAt p v l (omega arith))) front
+      ∙ laid-down z cs (take m (insertAt p v l)) l (insertAt p v w) s at (x .some) (x .up-to) (x .long) (x .fits) (x .sum) (omega (arith, x .held, length-take m (insertAt p v l), length-insertAt p v l (omega (arith, x .among, x .room)))) front
     where
       front : take at (insertAt p v w) ≡ take at (take m (insertAt p v l))
       front =
-          insert-alike p at w l (ap (take at) r ∙ laid-front z cs (take m (insertAt p v l)) l s at at (omega (arith, total-bound cs s fits)) (omega arith))
-          ∙ sym (take-take at m (insertAt p v l) a)
+          insert-alike p at w l (ap (take at) r ∙ laid-front z cs (take m (insertAt p v l)) l s at at (omega (arith, x .sum, total-bound cs s (x .fits))) (omega arith))
+          ∙ sym (take-take at m (insertAt p v l) (x .held))

@@ -36,7 +36,7 @@ use Rattle.rules.proofs.Sweeping.SweptWindow.{splice-set}
 use Rattle.rules.proofs.Requests.StaysGood.{Good, good-next}
 use Rattle.shares.specs.declared.Shape.{Shape}
 use Rattle.seats.specs.Bounds.{Indexed, Bounded, Near}
-use Rattle.bounding.proofs.Kept.{indexed-swept}
+use Rattle.bounding.proofs.Kept.{Resown, indexed-swept}
 use Rattle.sowing.specs.Sown.{Planted}
 use Rattle.aims.specs.declared.Aim.{Aim}
 use Rattle.records.specs.Asked.{asked}
@@ -230,6 +230,22 @@ module _ {slots bounds counts : List ℕ} {F : Forecast} {k : Shape} {r : Aim} (
       dealt-counts : (j : ℕ) → j < length (deal (take n ns) ks) → getD (take n ns) j 0 ≡ length (getD (deal (take n ns) ks) j [])
       dealt-counts j h = ap (λ (x : List ℕ). getD x j 0) (sym (counts-deal (take n ns) ks (sym plan-total))) ∙ List·getD-map length dealt j []
 
+      abbrev resown : Resown ss
+      resown = record {
+        s = s;
+        new = new;
+        i = f;
+        n = n;
+        window = dealt;
+        counts = take n ns;
+        from = from;
+        to = to;
+        many = dealt-long;
+        counted = plan-long;
+        within = ends;
+        each = dealt-counts;
+      }
+
       good-left : Good (shares (k .height)) (outcomeOf slots F k r .room)
       good-left = good-next S (lawful-stands (A .stands)) (asked g y) R (good-stands (A .stands))
 
@@ -258,8 +274,7 @@ module _ {slots bounds counts : List ℕ} {F : Forecast} {k : Shape} {r : Aim} (
           index =
               subst (Indexed (outcomeOf slots F k r .room .segments) after bounds′) (sym counts-left)
               (subst (λ (z : Segments). Indexed z after bounds′ (splice f n (take n ns) (set counts s (length new)))) (sym left-is)
-              (indexed-swept ss slots bounds counts (A .index) after bounds′ s new (length new) f n dealt (take n ns) from to refl dealt-long plan-long ends dealt-counts
-              (subst (λ (z : Segments). Shows z after) left-is shows-left) promise));
+              (indexed-swept ss slots bounds counts (A .index) after bounds′ resown (subst (λ (z : Segments). Shows z after) left-is shows-left) promise));
         }
           where
             counts-left : counts′ ≡ splice f n (take n ns) (set counts s (length new))

@@ -40,24 +40,24 @@ module _ (q : Request) (list forecast : List ℕ) where
     slots : list' ≡ C .slots
     words : forecast' ≡ forecastWords (C .forecast)
 
-  asked : (F G : Forecast) (a : Answer) (n : ℕ) (list' forecast' : List ℕ) → length forecast ≡ 37 → C .answer .number ≤ 8 → F ≡ saturated (forecastIn forecast)
-      → a ≡ rules.request q list F .answer → G ≡ rules.request q list F .forecast → list' ≡ rules.request q list F .slots
-      → n ≡ a .number → forecast' ≡ handedBack n G forecast → Asked a list' forecast'
-  asked F G a n list' forecast' l few f ea eg es en w =
-      let is : rules.request q list F ≡ rules.request q list (saturated (forecastIn forecast)) = ap (rules.request q list) f in
+  asked : (F : Forecast) (c : rules.Called) (n : ℕ) (forecast' : List ℕ) → length forecast ≡ 37 → C .answer .number ≤ 8 → F ≡ saturated (forecastIn forecast)
+      → c ≡ rules.request q list F → n ≡ c .answer .number → forecast' ≡ handedBack n (c .forecast) forecast → Asked (c .answer) (c .slots) forecast'
+  asked F c n forecast' l few f e en w =
+      let is : c ≡ rules.request q list (saturated (forecastIn forecast)) = e ∙ ap (rules.request q list) f in
       let same = request-same q list (forecastIn forecast) (forecastIn-roomy forecast) in
-      let answer = ea ∙ ap (λ (c : rules.Called). c .answer) is ∙ same .answer in
+      let answer = ap (λ (d : rules.Called). d .answer) is ∙ same .answer in
       let number : n ≡ C .answer .number = en ∙ ap (λ (x : Answer). x .number) answer in
       record {
         answer = answer;
-        slots = es ∙ ap (λ (c : rules.Called). c .slots) is ∙ same .slots;
+        slots = ap (λ (d : rules.Called). d .slots) is ∙ same .slots;
         words = elim (tested (eqb n 0)) [
           | inl d ↦
               (let z : n ≡ 0 = eqb→eq n 0 d in
-              w ∙ handed n G forecast (ap worksOn z) ∙ ap forecastWords (eg ∙ ap (λ (c : rules.Called). c .forecast) is ∙ same .done (sym number ∙ z)))
+              w ∙ handed n (c .forecast) forecast (ap worksOn z) ∙ ap forecastWords (ap (λ (d : rules.Called). d .forecast) is ∙ same .done (sym number ∙ z)))
           | inr d ↦
               (let z : n ≢ 0 = neqb→ne n 0 d in
-              w ∙ kept n G forecast (works-not n (omega (arith, z)) (omega (arith, number, few))) ∙ sym (ap forecastWords (same .left (λ y. z (number ∙ y))) ∙ words-again forecast l))
+              w ∙ kept n (c .forecast) forecast (works-not n (omega (arith, z)) (omega (arith, number, few)))
+              ∙ sym (ap forecastWords (same .left (λ y. z (number ∙ y))) ∙ words-again forecast l))
         ];
       }
 
@@ -68,7 +68,8 @@ module _ (list forecast : List ℕ) (key : ℕ) (reply : List ℕ) (l : length f
   unfolding insert
   insert-given F k n list' forecast' reply' m f a p =
       let few = small 8 (insertRows list (forecastIn forecast) key) _ (omega arith) (below.insert-tells list (forecastIn forecast) key (forecastIn-roomy forecast)) in
-      let d = asked (Insert key) list forecast F (k .forecast) (insertPaper (k .answer)) n list' forecast' l few f (a .answer) (a .forecast) (a .slots-left) (p .number) (p .forecast-left) in
+      let c : rules.Called = record { answer = insertPaper (k .answer); slots = list'; forecast = k .forecast } in
+      let d = asked (Insert key) list forecast F c n forecast' l few f (λ i. record { answer = a .answer i; slots = a .slots-left i; forecast = a .forecast i }) (p .number) (p .forecast-left) in
       let said = p .reply-left ∙ ap (λ (x : Answer). over (oneWord (answerWords x)) reply) (d .answer) in
       both-fitted forecast reply 1 _ _ _ _ l m (record { number = p .number ∙ ap (λ (x : Answer). x .number) (d .answer); slices = λ i. d .slots i ∷ d .words i ∷ said i ∷ [] })
 
@@ -78,6 +79,7 @@ module _ (list forecast : List ℕ) (key : ℕ) (reply : List ℕ) (l : length f
   unfolding delete
   delete-given F k n list' forecast' reply' m f a p =
       let few = small 8 (deleteRows list (forecastIn forecast) key) _ (omega arith) (below.delete-tells list (forecastIn forecast) key (forecastIn-roomy forecast)) in
-      let d = asked (Delete key) list forecast F (k .forecast) (deletePaper (k .answer)) n list' forecast' l few f (a .answer) (a .forecast) (a .slots-left) (p .number) (p .forecast-left) in
+      let c : rules.Called = record { answer = deletePaper (k .answer); slots = list'; forecast = k .forecast } in
+      let d = asked (Delete key) list forecast F c n forecast' l few f (λ i. record { answer = a .answer i; slots = a .slots-left i; forecast = a .forecast i }) (p .number) (p .forecast-left) in
       let said = p .reply-left ∙ ap (λ (x : Answer). over (twoWords (answerWords x)) reply) (d .answer) in
       both-fitted forecast reply 2 _ _ _ _ l m (record { number = p .number ∙ ap (λ (x : Answer). x .number) (d .answer); slices = λ i. d .slots i ∷ d .words i ∷ said i ∷ [] })

@@ -29,7 +29,34 @@ use Rattle.replies.specs.Back.{worksOn, handedBack}
 use Rattle.replies.proofs.Back.{works-not, handed, kept}
 use Rattle.worded.proofs.Fitted.{all-fitted}
 
-module _ (list forecast requests : List ℕ) (allowance : ℕ) (totals reply : List ℕ) where
+-- what a run on words is lent, of the right sizes
+pub record Lent : Type 0 where
+  pub list : List ℕ
+  pub forecast : List ℕ
+  pub requests : List ℕ
+  pub allowance : ℕ
+  pub totals : List ℕ
+  pub reply : List ℕ
+  pub forecast-fits : length forecast ≡ 37
+  pub totals-fit : length totals ≡ 4
+  pub reply-fits : 4 ≤ length reply
+
+module _ (x : Lent) where
+  abbrev list : List ℕ
+  list = x .list
+
+  abbrev forecast : List ℕ
+  forecast = x .forecast
+
+  abbrev requests : List ℕ
+  requests = x .requests
+
+  abbrev allowance : ℕ
+  allowance = x .allowance
+
+  abbrev totals : List ℕ
+  totals = x .totals
+
   abbrev W : rules.Worked
   W = rules.run list (forecastIn forecast) requests allowance (totalsIn totals)
 
@@ -49,9 +76,9 @@ module _ (list forecast requests : List ℕ) (allowance : ℕ) (totals reply : L
       works-not (checks.check list (forecastIn forecast)) (omega (arith, z)) few
 
   -- the words written are the same where the run is worked, and where it is refused at once those lent are left
-  back : (n : ℕ) (G : Forecast) → length forecast ≡ 37 → n ≡ W .reply .stop
+  back : (n : ℕ) (G : Forecast) → n ≡ W .reply .stop
       → G ≡ rules.run list (saturated (forecastIn forecast)) requests allowance (totalsIn totals) .forecast → handedBack n G forecast ≡ forecastWords (W .forecast)
-  back n G l e g =
+  back n G e g =
       let same = run-same list (forecastIn forecast) requests allowance (totalsIn totals) (forecastIn-roomy forecast) in
       elim (tested (eqb (checks.check list (forecastIn forecast)) 0)) [
         | inl t ↦
@@ -60,21 +87,22 @@ module _ (list forecast requests : List ℕ) (allowance : ℕ) (totals reply : L
         | inr t ↦
             (let z : checks.check list (forecastIn forecast) ≢ 0 = neqb→ne _ _ t in
             let q = same .left z in
-            kept n G forecast (ap worksOn (e ∙ q .1) ∙ early z) ∙ sym (ap forecastWords (q .0) ∙ words-again forecast l))
+            kept n G forecast (ap worksOn (e ∙ q .1) ∙ early z) ∙ sym (ap forecastWords (q .0) ∙ words-again forecast (x .forecast-fits)))
       ]
 
-  pub run-given : (F : Forecast) (T : Totals) (k : ToldRun) (list' forecast' totals' reply' : List ℕ) → length forecast ≡ 37 → length totals ≡ 4 → 4 ≤ length reply
-      → F ≡ saturated (forecastIn forecast) → T ≡ totalsIn totals → RunTells list F requests allowance T k list'
-      → RunPosted (k .told .stop) (k .told .forecast) (k .told .tally) (k .totals) forecast reply forecast' totals' reply'
-      → Gives (run list forecast requests allowance totals reply) (k .told .stop) (list' ∷ forecast' ∷ totals' ∷ reply' ∷ [])
+  pub run-given : (F : Forecast) (T : Totals) (k : ToldRun) (list' forecast' totals' reply' : List ℕ) → F ≡ saturated (forecastIn (x .forecast)) → T ≡ totalsIn (x .totals)
+      → RunTells (x .list) F (x .requests) (x .allowance) T k list'
+      → RunPosted (k .told .stop) (k .told .forecast) (k .told .tally) (k .totals) (x .forecast) (x .reply) forecast' totals' reply'
+      → Gives (run (x .list) (x .forecast) (x .requests) (x .allowance) (x .totals) (x .reply)) (k .told .stop) (list' ∷ forecast' ∷ totals' ∷ reply' ∷ [])
   unfolding run
-  run-given F T k list' forecast' totals' reply' l m n f g a p =
+  run-given F T k list' forecast' totals' reply' f g a p =
       let is : rules.run list F requests allowance T ≡ rules.run list (saturated (forecastIn forecast)) requests allowance (totalsIn totals) = λ i. rules.run list (f i) requests allowance (g i) in
       let same = run-same list (forecastIn forecast) requests allowance (totalsIn totals) (forecastIn-roomy forecast) in
       let slots = a .slots-left ∙ ap (λ (w : rules.Worked). w .slots) is ∙ same .slots-left in
-      let stop = a .stop ∙ ap (λ (w : rules.Worked). w .reply .stop) is ∙ ap (λ (x : rules.Reply). x .stop) (same .reply) in
-      let words = p .forecast-left ∙ back (k .told .stop) (k .told .forecast) l stop (a .forecast ∙ ap (λ (w : rules.Worked). w .forecast) is) in
+      let stop = a .stop ∙ ap (λ (w : rules.Worked). w .reply .stop) is ∙ ap (λ (r : rules.Reply). r .stop) (same .reply) in
+      let words = p .forecast-left ∙ back (k .told .stop) (k .told .forecast) stop (a .forecast ∙ ap (λ (w : rules.Worked). w .forecast) is) in
       let sums = p .totals-left ∙ ap totalsWords (a .totals ∙ ap (λ (w : rules.Worked). w .totals) is ∙ same .totals) in
-      let tally = a .tally ∙ ap (λ (w : rules.Worked). w .reply .tally) is ∙ ap (λ (x : rules.Reply). x .tally) (same .reply) in
-      let said = p .reply-left ∙ ap (λ (t : Tally). over (replyWords t) reply) tally in
-      all-fitted forecast totals reply _ _ _ _ l m n (record { number = stop; slices = λ i. slots i ∷ words i ∷ sums i ∷ said i ∷ [] })
+      let tally = a .tally ∙ ap (λ (w : rules.Worked). w .reply .tally) is ∙ ap (λ (r : rules.Reply). r .tally) (same .reply) in
+      let said = p .reply-left ∙ ap (λ (t : Tally). over (replyWords t) (x .reply)) tally in
+      all-fitted (x .forecast) (x .totals) (x .reply) _ _ _ _ (x .forecast-fits) (x .totals-fit) (x .reply-fits)
+      (record { number = stop; slices = λ i. slots i ∷ words i ∷ sums i ∷ said i ∷ [] })

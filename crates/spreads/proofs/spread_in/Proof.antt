@@ -73,7 +73,8 @@ loop-again c =
       omega arith,
       omega arith,
       omega arith,
-      laid-in (a .key) 0 cs (a .window .now) (loop .window) _ _ (a .m) (a .p) (loop .s) (loop .at) h (inv .0) (start .pre .0) (start .pre .1 .0) (inv .1) (inv .2) (inv .4) (start .pre .1 .1 .1) (inv .5)
+      laid-in (a .key) 0 cs (a .window .now) (loop .window) _ _ (a .m) (a .p) (loop .s) (loop .at)
+          (record { some = h; up-to = inv .0; long = start .pre .0; fits = start .pre .1 .0; sum = inv .1; held = inv .2; room = inv .4; among = start .pre .1 .1 .1 }) (inv .5)
           (c .before .before .before .before .before .before .lay-in .ensures) (c .before .before .clear .ensures),
     )
 

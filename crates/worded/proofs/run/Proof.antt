@@ -1,5 +1,5 @@
 -- `run`: the run on the forecast and totals that the words show, then the words of the reply, of the totals and of the forecast.
-use Rattle.worded.proofs.RunGiven.{run-given}
+use Rattle.worded.proofs.RunGiven.{Lent, run-given}
 use borrow.Author.Needs.{needs}
 use Rattle.worded.proofs.run.Statement.{statement}
 use Rattle.worded.proofs.run.Tie as tie
@@ -35,8 +35,18 @@ returns c =
     let forecast = c .before .before .before .before .before .before .before .before .before .before .before .before .before .before .before .before .before .before .read-forecast in
     let totals = c .before .before .before .before .before .before .before .before .before .before .before .before .before .before .before .before .read-totals in
     let ran = c .before .before .before .before .before .before .before .before .before .before .before .before .before .before .run-told in
-    run-given (a .list .now) (a .forecast .now) (a .requests .now) (a .allowance) (a .totals .now) (a .reply .now) (forecast .result) (totals .result) (ran .result) _ _ _ _ (s .pre .0) (s .pre .1) (s .pre .2)
-    (forecast .ensures) (totals .ensures) (ran .ensures) (c .before .before .before .before .before .before .post-run .ensures)
+    let lent : Lent = record {
+      list = a .list .now;
+      forecast = a .forecast .now;
+      requests = a .requests .now;
+      allowance = a .allowance;
+      totals = a .totals .now;
+      reply = a .reply .now;
+      forecast-fits = s .pre .0;
+      totals-fit = s .pre .1;
+      reply-fits = s .pre .2;
+    } in
+    run-given lent (forecast .result) (totals .result) (ran .result) _ _ _ _ (forecast .ensures) (totals .ensures) (ran .ensures) (c .before .before .before .before .before .before .post-run .ensures)
 
 pub run-spec : {M : Type 1} → statement M
 run-spec =

@@ -71,7 +71,7 @@ returns-2 c =
     let l = c .before .smaller .ensures in
     let r = c .scan .ensures in (
       scan-ranged (half s) (low s) (high s) (m s) (s .pre .1) (c .scan .result) (rw f at (r .0 .0)) (rw l at (r .0 .1)),
-      λ S k ws a b e d. scan-is (half s) (low s) (high s) (m s) S k (s .args .part .front) (weightsIn ws (s .args .part)) (length-in ws (s .args .at .now) (s .args .weights .now) (s .args .part) d) (c .scan .result) _ _ f l a b e
+      λ S k ws a b e d. scan-is (half s) (low s) (high s) (m s) S k (s .args .part .front) (weightsIn ws (s .args .part)) (length-in ws (s .args .at .now) (s .args .weights .now) (s .args .part) d) (c .scan .result) _ _ (record { from = f; to = l; size = a; least-is = b; most-is = e })
           (λ z. c .before .before .before .before .if1 .left (d .all ∙ z)) (r .1 ws d),
     )
 

@@ -2,6 +2,7 @@
 use Prim.Native.Nat.{ℕ, _≤_}
 use mathlib.Core.Path.{_≡_, sym, ap, _∙_}
 use mathlib.Core.Logic.{inl, inr, _≢_}
+use mathlib.Core.Bool.{_||_}
 use mathlib.Core.List.{List, [], _∷_}
 use native.Mathlib.Omega.{arith}
 use lib.Dec.{eqb, eqb→eq}
@@ -18,7 +19,8 @@ use Rattle.answers.specs.declared.InsertReply.{InsertReply}
 use Rattle.answers.specs.declared.DeleteReply.{DeleteReply}
 use Rattle.answers.specs.Admits.{InsertAdmits, DeleteAdmits}
 use Rattle.answers.specs.Answers.{insertPaper, deletePaper}
-use Rattle.given.specs.Calls.{insert, delete, over, Gives}
+use Rattle.given.specs.declared.Told.{Told}
+use Rattle.given.specs.Calls.{Given, sized, notForecast, short, insert, delete, over, Gives}
 use Rattle.given.proofs.Leaves.{small}
 use Rattle.telling.specs.Told.{answerWords}
 use Rattle.words.specs.Words.{forecastIn, forecastWords, saturated}
@@ -61,25 +63,34 @@ module _ (q : Request) (list forecast : List ℕ) where
         ];
       }
 
+-- what the call gives whose reply has the m words `words`
+module _ (q : Request) (words : Told → List ℕ) (m : ℕ) (list forecast reply : List ℕ) where
+  abbrev Outcome : Given
+  Outcome = record { number = C q list forecast .answer .number; left = C q list forecast .slots ∷ forecastWords (C q list forecast .forecast) ∷ over (words (answerWords (C q list forecast .answer))) reply ∷ [] }
+
+  request-given : (F : Forecast) (c : rules.Called) (n : ℕ) (forecast' reply' : List ℕ) → length forecast ≡ 37 → m ≤ length reply → C q list forecast .answer .number ≤ 8
+      → F ≡ saturated (forecastIn forecast) → c ≡ rules.request q list F → Posted words (answerWords (c .answer)) (c .forecast) forecast reply n forecast' reply'
+      → Gives (sized (notForecast forecast || short reply m) (list ∷ forecast ∷ reply ∷ []) Outcome) n (c .slots ∷ forecast' ∷ reply' ∷ [])
+  request-given F c n forecast' reply' l k few f e p =
+      let d = asked q list forecast F c n forecast' l few f e (p .number) (p .forecast-left) in
+      let said = p .reply-left ∙ ap (λ (x : Answer). over (words (answerWords x)) reply) (d .answer) in
+      both-fitted forecast reply m _ _ _ _ l k (record { number = p .number ∙ ap (λ (x : Answer). x .number) (d .answer); slices = λ i. d .slots i ∷ d .words i ∷ said i ∷ [] })
+
 module _ (list forecast : List ℕ) (key : ℕ) (reply : List ℕ) (l : length forecast ≡ 37) where
   pub insert-given : (F : Forecast) (k : InsertReply) (n : ℕ) (list' forecast' reply' : List ℕ) → 1 ≤ length reply → F ≡ saturated (forecastIn forecast)
       → InsertAdmits list F key k list' → Posted oneWord (answerWords (insertPaper (k .answer))) (k .forecast) forecast reply n forecast' reply'
       → Gives (insert list forecast key reply) n (list' ∷ forecast' ∷ reply' ∷ [])
   unfolding insert
-  insert-given F k n list' forecast' reply' m f a p =
-      let few = small 8 (insertRows list (forecastIn forecast) key) _ (omega arith) (below.insert-tells list (forecastIn forecast) key (forecastIn-roomy forecast)) in
-      let c : rules.Called = record { answer = insertPaper (k .answer); slots = list'; forecast = k .forecast } in
-      let d = asked (Insert key) list forecast F c n forecast' l few f (λ i. record { answer = a .answer i; slots = a .slots-left i; forecast = a .forecast i }) (p .number) (p .forecast-left) in
-      let said = p .reply-left ∙ ap (λ (x : Answer). over (oneWord (answerWords x)) reply) (d .answer) in
-      both-fitted forecast reply 1 _ _ _ _ l m (record { number = p .number ∙ ap (λ (x : Answer). x .number) (d .answer); slices = λ i. d .slots i ∷ d .words i ∷ said i ∷ [] })
+  insert-given F k n list' forecast' reply' m f a =
+      request-given (Insert key) oneWord 1 list forecast reply F (record { answer = insertPaper (k .answer); slots = list'; forecast = k .forecast }) n forecast' reply' l m
+      (small 8 (insertRows list (forecastIn forecast) key) _ (omega arith) (below.insert-tells list (forecastIn forecast) key (forecastIn-roomy forecast))) f
+      (λ i. record { answer = a .answer i; slots = a .slots-left i; forecast = a .forecast i })
 
   pub delete-given : (F : Forecast) (k : DeleteReply) (n : ℕ) (list' forecast' reply' : List ℕ) → 2 ≤ length reply → F ≡ saturated (forecastIn forecast)
       → DeleteAdmits list F key k list' → Posted twoWords (answerWords (deletePaper (k .answer))) (k .forecast) forecast reply n forecast' reply'
       → Gives (delete list forecast key reply) n (list' ∷ forecast' ∷ reply' ∷ [])
   unfolding delete
-  delete-given F k n list' forecast' reply' m f a p =
-      let few = small 8 (deleteRows list (forecastIn forecast) key) _ (omega arith) (below.delete-tells list (forecastIn forecast) key (forecastIn-roomy forecast)) in
-      let c : rules.Called = record { answer = deletePaper (k .answer); slots = list'; forecast = k .forecast } in
-      let d = asked (Delete key) list forecast F c n forecast' l few f (λ i. record { answer = a .answer i; slots = a .slots-left i; forecast = a .forecast i }) (p .number) (p .forecast-left) in
-      let said = p .reply-left ∙ ap (λ (x : Answer). over (twoWords (answerWords x)) reply) (d .answer) in
-      both-fitted forecast reply 2 _ _ _ _ l m (record { number = p .number ∙ ap (λ (x : Answer). x .number) (d .answer); slices = λ i. d .slots i ∷ d .words i ∷ said i ∷ [] })
+  delete-given F k n list' forecast' reply' m f a =
+      request-given (Delete key) twoWords 2 list forecast reply F (record { answer = deletePaper (k .answer); slots = list'; forecast = k .forecast }) n forecast' reply' l m
+      (small 8 (deleteRows list (forecastIn forecast) key) _ (omega arith) (below.delete-tells list (forecastIn forecast) key (forecastIn-roomy forecast))) f
+      (λ i. record { answer = a .answer i; slots = a .slots-left i; forecast = a .forecast i })

@@ -1,6 +1,9 @@
-// Moves by the rules (the archive's own replies) and with even spacing, by pattern. Stops with an error where the two must agree and
-// do not. Writes, with tabs between:  pattern NAME REQUESTS KEYS MOVES SWEEPS EVEN-MOVES EVEN-SWEEPS
-//                                     curve NAME REQUEST MOVES-SO-FAR EVEN-MOVES-SO-FAR
+// Moves by the rules (the archive's own replies) in both profiles, and with even spacing, by pattern. Stops with an error where two must
+// agree and do not. Writes, with tabs between:
+//   pattern NAME REQUESTS KEYS MOVES SWEEPS EVEN-MOVES EVEN-SWEEPS
+//   curve NAME REQUEST MOVES-SO-FAR EVEN-MOVES-SO-FAR SECOND-PROFILE'S
+//   list NUMBER PROFILE SLOTS KEYS               the lists that the profiles are compared on
+//   profiles NAME REQUESTS MOVES SWEEPS ..       by pattern, for each of these lists
 #include <cstdio>
 #include <cstdlib>
 
@@ -47,18 +50,20 @@ static Outcome even_step(Even &even, const Pattern &p, size_t i) {
 }
 
 static void compare(const Pattern &p) {
-  List single, whole;
+  List single, whole, second(2);
   Even even;
-  uint64_t rules = 0;
+  uint64_t rules = 0, tighter = 0;
   Sum spaced;
   for (size_t i = 0; i < p.requests.size(); i++) {
     must(single.work(p.requests[i], rules), "refused", p, i);
     spaced.add(even_step(even, p, i));
     must(live(single.slots) == live(even.slots()), "the two hold other keys", p, i);
-    if (i % 16 == 15)
-      printf("curve\t%s\t%zu\t%llu\t%llu\n", p.name.c_str(), i + 1, (unsigned long long)rules,
-             (unsigned long long)spaced.moves);
+    if (i % 16 != 15) continue;
+    tighter += second.run(records({p.requests.begin() + long(i - 15), p.requests.begin() + long(i + 1)}));
+    printf("curve\t%s\t%zu\t%llu\t%llu\t%llu\n", p.name.c_str(), i + 1, (unsigned long long)rules,
+           (unsigned long long)spaced.moves, (unsigned long long)tighter);
   }
+  must(live(second.slots) == live(single.slots), "the profiles hold other keys", p, p.requests.size());
   const uint64_t moves = whole.run(records(p.requests));
   must(moves == rules && whole.slots == single.slots && whole.forecast == single.forecast, "a run and single calls differ", p,
        p.requests.size());
@@ -66,6 +71,31 @@ static void compare(const Pattern &p) {
          (unsigned long long)moves, whole.totals[3], (unsigned long long)spaced.moves, (unsigned long long)spaced.sweeps);
 }
 
+// Lists to compare the profiles on: the same keys in the same memory; as many as the second profile has room for in half of it; as many
+// as it has room for.
+static const struct {
+  uint64_t profile;
+  size_t slots, keys;
+} LISTS[] = {{1, SLOTS, MOST},          {2, SLOTS, MOST},           {1, SLOTS, MOST_SECOND / 2}, {2, SLOTS / 2, MOST_SECOND / 2},
+             {2, SLOTS, MOST_SECOND}};
+constexpr size_t PATTERNS = 7;
+
+// One pattern, in one run on each of the lists.
+static void profiles(size_t which) {
+  printf("profiles\t%s", patterns()[which].name.c_str());
+  for (const auto &l : LISTS) {
+    const Pattern p = patterns(l.keys)[which];
+    List list(l.profile, l.slots);
+    const uint64_t moves = list.run(records(p.requests));
+    must(list.totals[0] == p.requests.size() && list.totals[1] == 0 && list.sound(), "refused by a profile", p, p.requests.size());
+    printf("\t%zu\t%llu\t%u", p.requests.size(), (unsigned long long)moves, list.totals[3]);
+  }
+  printf("\n");
+}
+
 int main() {
   for (const Pattern &p : patterns()) compare(p);
+  size_t n = 0;
+  for (const auto &l : LISTS) printf("list\t%zu\t%llu\t%zu\t%zu\n", ++n, (unsigned long long)l.profile, l.slots, l.keys);
+  for (size_t which = 0; which < PATTERNS; which++) profiles(which);
 }

@@ -12,15 +12,15 @@ uint64_t Random::key() {
   return (z ^ (z >> 31)) | 1;
 }
 
-static Requests up() {
+static Requests up(size_t n) {
   Requests r;
-  for (uint64_t k = 1; k <= MOST; k++) r.push_back({true, k});
+  for (uint64_t k = 1; k <= n; k++) r.push_back({true, k});
   return r;
 }
 
-static Requests down() {
+static Requests down(size_t n) {
   Requests r;
-  for (uint64_t k = MOST; k >= 1; k--) r.push_back({true, k});
+  for (uint64_t k = n; k >= 1; k--) r.push_back({true, k});
   return r;
 }
 
@@ -29,24 +29,24 @@ static void behind(Requests &r, uint64_t moment, size_t n) {
   for (size_t i = n; i >= 1; i--) r.push_back({true, moment + i});
 }
 
-static Requests hammer() {
+static Requests hammer(size_t n) {
   Requests r{{true, 1 << 20}};
-  behind(r, 1 << 20, MOST - 1);
+  behind(r, 1 << 20, n - 1);
   return r;
 }
 
-static Requests anywhere() {
+static Requests anywhere(size_t n) {
   Requests r;
   Random random(1);
-  while (r.size() < MOST) r.push_back({true, random.key()});
+  while (r.size() < n) r.push_back({true, random.key()});
   return r;
 }
 
-// 64 stretches of 32 keys that follow each other, rising.
-static Requests bulk() {
+// Stretches of 32 keys that follow each other, rising.
+static Requests bulk(size_t n) {
   Requests r;
   Random random(2);
-  while (r.size() < MOST) {
+  while (r.size() < n) {
     const uint64_t first = random.key();
     for (uint64_t i = 0; i < 32; i++) r.push_back({true, first + i});
   }
@@ -54,12 +54,12 @@ static Requests bulk() {
 }
 
 // Three inserts to a delete for the first half, then three deletes to an insert.
-static Requests mixed() {
+static Requests mixed(size_t n) {
   Requests r;
   std::vector<uint64_t> live;
   Random random(3);
-  while (r.size() < 2 * MOST) {
-    const bool often = random.below(4) != 0, growing = r.size() < MOST;
+  while (r.size() < 2 * n) {
+    const bool often = random.below(4) != 0, growing = r.size() < n;
     if (often == growing || live.empty()) {
       live.push_back(random.key());
       r.push_back({true, live.back()});
@@ -72,12 +72,12 @@ static Requests mixed() {
   return r;
 }
 
-// A lesson of 64 moments; then thirty keys behind one of them, thirty behind another, until each has had its thirty.
-static Requests thirty() {
+// A lesson of moments, one to 32 keys; then thirty keys behind one of them, thirty behind another, until each has had its thirty.
+static Requests thirty(size_t n) {
   Requests r;
   Random random(4);
   std::vector<uint64_t> left;
-  for (uint64_t i = 1; i <= 64; i++) left.push_back(i << 20);
+  for (uint64_t i = 1; i <= n / 32; i++) left.push_back(i << 20);
   for (uint64_t moment : left) r.push_back({true, moment});
   while (!left.empty()) {
     std::swap(left[random.below(left.size())], left.back());
@@ -87,10 +87,10 @@ static Requests thirty() {
   return r;
 }
 
-std::vector<Pattern> patterns() {
-  return {{"sequential up", up()}, {"sequential down", down()}, {"hammer on one key", hammer()},
-          {"random", anywhere()},  {"bulk", bulk()},            {"mixed", mixed()},
-          {"thirty behind one moment", thirty()}};
+std::vector<Pattern> patterns(size_t n) {
+  return {{"sequential up", up(n)}, {"sequential down", down(n)}, {"hammer on one key", hammer(n)},
+          {"random", anywhere(n)},  {"bulk", bulk(n)},            {"mixed", mixed(n)},
+          {"thirty behind one moment", thirty(n)}};
 }
 
 std::vector<uint8_t> records(const Requests &requests) {

@@ -1,4 +1,4 @@
-// The patterns of requests that are measured, at height 6: each from an empty list, with a fixed seed, no request refused.
+// The patterns of requests that are measured: each from an empty list, with a fixed seed, no request refused.
 #ifndef BENCH_PATTERNS_H
 #define BENCH_PATTERNS_H
 #include <cstddef>
@@ -7,7 +7,8 @@
 #include <vector>
 
 constexpr int HEIGHT = 6;
-constexpr size_t SEGMENT = 64, SEGMENTS = 1 << HEIGHT, SLOTS = SEGMENT * SEGMENTS, MOST = SLOTS / 2;
+constexpr size_t SEGMENT = 64, SEGMENTS = 1 << HEIGHT, SLOTS = SEGMENT * SEGMENTS;
+constexpr size_t MOST = SEGMENTS * 32, MOST_SECOND = SEGMENTS * 44; // keys, by the two profiles
 
 struct Request {
   bool insert; // else delete
@@ -29,6 +30,6 @@ class Random {
   uint64_t state;
 };
 
-std::vector<Pattern> patterns();
+std::vector<Pattern> patterns(size_t keys = MOST);                  // of so many keys, a multiple of 32
 std::vector<uint8_t> records(const std::vector<Request> &); // as a run takes them
 #endif

@@ -1,4 +1,5 @@
-/* A small classroom in C: loads an exercise, works request records, looks up, scans, meets refusals, and draws the list.
+/* A small classroom in C: loads an exercise, works request records, looks up, scans, meets refusals, draws the list, and fills it by
+   each profile.
    examples/run builds it, runs it, and holds what it prints to examples/host.out. */
 #include <inttypes.h>
 #include <stdio.h>
@@ -7,6 +8,7 @@
 
 #include "ffalwenog.h"
 
+enum { ROOMY = 1, TIGHT = 2 };                                    /* the two profiles; the classroom uses the first */
 enum { SEGMENT = 64, SEGMENTS = 4, SLOTS = SEGMENT * SEGMENTS }; /* height 2: 64 * 2^2 slots, so at most 128 keys */
 enum { FLOODING = 1, CARGO_SHIFT = 2, PUMP_FAILURE = 3 };         /* kinds of events */
 enum { INSERT = 1, DELETE = 2 };                                  /* kinds of requests */
@@ -84,10 +86,10 @@ static void load(struct room *room)
 {
     uint64_t moves;
 
-    must("make", ff_make(room->list, SLOTS, room->forecast, FF_FORECAST), 0);
+    must("make", ff_make(ROOMY, room->list, SLOTS, room->forecast, FF_FORECAST), 0);
     for (unsigned i = 0; i < 80; i++) {
         uint64_t key = event(9, 2 * i, FLOODING + i % 3, 1 + i % 5);
-        must("insert", ff_insert(room->list, SLOTS, room->forecast, FF_FORECAST, key, &moves, 1), 0);
+        must("insert", ff_insert(ROOMY, room->list, SLOTS, room->forecast, FF_FORECAST, key, &moves, 1), 0);
     }
     printf("The plan: 80 events from 09:00, every other minute. ('#' a key, '.' a gap, a digit the count of a marker's cell.)\n");
     draw(room);
@@ -114,8 +116,8 @@ static void work(struct room *room, const struct requests *requests)
     uint64_t number, reply[4]; /* records worked, records refused, moves, byte place */
 
     do {
-        number = ff_run(room->list, SLOTS, room->forecast, FF_FORECAST, requests->bytes + place, requests->length - place,
-                        ALLOWANCE, room->totals, FF_TOTALS, reply, 4);
+        number = ff_run(ROOMY, room->list, SLOTS, room->forecast, FF_FORECAST, requests->bytes + place,
+                        requests->length - place, ALLOWANCE, room->totals, FF_TOTALS, reply, 4);
         if (number != 10)
             must("run", number, 0);
         printf("  a run: %" PRIu64 " worked, %" PRIu64 " refused, %" PRIu64 " moves, %s\n", reply[0], reply[1], reply[2],
@@ -151,10 +153,10 @@ static void look(const struct room *room)
 {
     uint64_t found[2], keys[6], reply[2];
 
-    must("lookup", ff_lookup(room->list, SLOTS, event(10, 1, FLOODING, 7), found, 2), 0);
+    must("lookup", ff_lookup(ROOMY, room->list, SLOTS, event(10, 1, FLOODING, 7), found, 2), 0);
     must("the key is live", found[0], 1);
     printf("\nThe flooding of compartment 7 at 10:01 is in segment %" PRIu64 ". Six events from 10:00 on:\n", found[1]);
-    must("scan", ff_scan(room->list, SLOTS, event(10, 0, 0, 0), keys, 6, reply, 2), 0);
+    must("scan", ff_scan(ROOMY, room->list, SLOTS, event(10, 0, 0, 0), keys, 6, reply, 2), 0);
     must("keys written", reply[0], 6);
     for (int i = 0; i < 6; i++)
         print_event(keys[i]);
@@ -170,19 +172,39 @@ static void refusals(struct room *room)
 
     printf("\nRefused, with nothing changed:\n");
     must("the same key twice",
-         ff_insert(room->list, SLOTS, room->forecast, FF_FORECAST, event(10, 1, FLOODING, 7), &moves, 1), 6);
+         ff_insert(ROOMY, room->list, SLOTS, room->forecast, FF_FORECAST, event(10, 1, FLOODING, 7), &moves, 1), 6);
     must("moves", moves, 0);
     must("a change", memcmp(room, &before, sizeof before) != 0, 0);
     printf("  6  the same key twice\n");
 
+    must("no such profile", ff_insert(3, room->list, SLOTS, room->forecast, FF_FORECAST, event(12, 0, FLOODING, 1), &moves, 1), 15);
+    must("a change", memcmp(room, &before, sizeof before) != 0, 0);
+    printf("  15  a profile that is neither 1 nor 2\n");
+
     before.list[5] = room->list[5] = room->list[4]; /* keys no longer rise strictly */
-    must("a damaged slot", ff_insert(room->list, SLOTS, room->forecast, FF_FORECAST, event(12, 0, FLOODING, 1), &moves, 1), 2);
+    must("a damaged slot",
+         ff_insert(ROOMY, room->list, SLOTS, room->forecast, FF_FORECAST, event(12, 0, FLOODING, 1), &moves, 1), 2);
     must("a change", memcmp(room, &before, sizeof before) != 0, 0);
     printf("  2  an insert while slot 5 is damaged\n");
 
     room->list[5] = sound;
-    must("check", ff_check(room->list, SLOTS, room->forecast, FF_FORECAST), 0);
+    must("check", ff_check(ROOMY, room->list, SLOTS, room->forecast, FF_FORECAST), 0);
     printf("The slot mended, the check gives 0.\n");
+}
+
+/* Rising keys into an empty list of the same memory until the profile allows no more: how many, and their moves. */
+static void fill(uint64_t profile)
+{
+    static struct room room;
+    uint64_t keys = 0, moves, all = 0, number;
+
+    must("make", ff_make(profile, room.list, SLOTS, room.forecast, FF_FORECAST), 0);
+    while ((number = ff_insert(profile, room.list, SLOTS, room.forecast, FF_FORECAST, keys + 1, &moves, 1)) == 0) {
+        keys++;
+        all += moves;
+    }
+    must("full", number, 8);
+    printf("  profile %" PRIu64 ": %" PRIu64 " keys, %" PRIu64 " moves\n", profile, keys, all);
 }
 
 int main(void)
@@ -193,5 +215,8 @@ int main(void)
     change(&room);
     look(&room);
     refusals(&room);
+    printf("\nFilled by rising keys, %d slots hold:\n", SLOTS);
+    fill(ROOMY);
+    fill(TIGHT);
     return 0;
 }

@@ -1,4 +1,4 @@
-"""All groups of calls, and the numbers that each call must be seen to return.
+"""All groups of calls, and the numbers that each call must be seen to return, by both profiles.
 
 A group is a function of a random source, a height and the number of the episode. It yields what each call is lent, and is sent what the
 call must return and leave.
@@ -12,7 +12,8 @@ import wide
 GROUPS = {**sequences.GROUPS, **refusals.GROUPS, **records.GROUPS, **over.GROUPS, **wide.GROUPS}
 WHOLE = dict(wide=wide.PLACES)      # groups that are worked whole, at every height: so many episodes
 
-REACHED = dict(make=(0, 1, 100), check=(0, 1, 2, 3, 4, 100), lookup=(0, 1, 2, 3, 5, 100), insert=(0, 1, 2, 3, 4, 5, 6, 8, 100),
-               delete=(0, 1, 2, 3, 4, 5, 7, 100), scan=(0, 1, 2, 3, 100), run=(0, 1, 2, 3, 4, 9, 10, 100),
-               over=(0, 1, 2, 3, 4, 9, 10))
-ENOUGH = 5000       # calls of all groups that reach all these
+REACHED = dict(make=(0, 1, 15, 100), check=(0, 1, 2, 3, 4, 15, 100), lookup=(0, 1, 2, 3, 5, 15, 100),
+               insert=(0, 1, 2, 3, 4, 5, 6, 8, 15, 100), delete=(0, 1, 2, 3, 4, 5, 7, 15, 100), scan=(0, 1, 2, 3, 15, 100),
+               run=(0, 1, 2, 3, 4, 9, 10, 15, 100), over=(0, 1, 2, 3, 4, 9, 10, 15))
+SELDOM = ("over",)  # by either profile
+ENOUGH = 10000      # calls of all groups that reach all these

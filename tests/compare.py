@@ -3,7 +3,7 @@ that are worked whole.
 
     python3 tests/compare.py [--groups A,B] [--heights 1,2] [--first] [--again GROUP:HEIGHT:EPISODE] [COUNT [SEED]]
 
-FF_CC, FF_ARCHIVE, FF_RUN_ARCHIVE and FF_EMULATOR name the compiler, the archives of `host` and `run`, and the emulator if there is one
+FF_CC, FF_ARCHIVE, FF_RUN_ARCHIVE and FF_EMULATOR name the compiler, the archives of `host` and `told`, and the emulator if there is one
 (tests/run sets them).
 """
 import argparse
@@ -14,6 +14,7 @@ import sys
 import tempfile
 
 import cases
+import model
 import oracle
 import wire
 
@@ -37,7 +38,7 @@ def difference(driver, lent):
 def told(lent):
     """A call in short."""
     sizes = " ".join("%s %d" % (name, len(slice)) for name, slice in zip(wire.SLICES, lent.slices()) if slice)
-    return "%s(%d) lent %s" % (lent.call, lent.number, sizes)
+    return "%s(%d, %d) lent %s" % (lent.call, lent.profile, lent.number, sizes)
 
 
 class Cell:
@@ -66,7 +67,7 @@ class Cell:
                 self.differences.append("seed %d group %s height %d episode %d call %d: %s: %s" % (
                     task.seed, task.group, task.height, episode, n, told(lent), what))
                 return False
-            self.reached[lent.call, outcome[0]] += 1
+            self.reached[lent.call, lent.profile, outcome[0]] += 1
         return True
 
     def work(self):
@@ -107,8 +108,24 @@ def worked(args):
         return done
 
 
+def never(reached):
+    """What should have been returned, and was not: each number of each call, by any of some profiles."""
+    asked = []
+    for call, numbers in cases.REACHED.items():
+        for number in numbers:
+            either = [model.PROFILES] if call in cases.SELDOM else [(profile,) for profile in model.PROFILES]
+            asked += [(call, some, number) for some in ([model.UNKNOWN] if number == 15 else either)]
+    return [(call, some, number) for call, some, number in asked if not any(reached[call, profile, number] for profile in some)]
+
+
+def returned(reached, call, profile):
+    """How often a call by this profile returned each number."""
+    counts = sorted((number, n) for (name, named, number), n in reached.items() if name == call and named == profile)
+    return ", ".join("%d: %d" % pair for pair in counts)
+
+
 def report(cells, groups, heights):
-    """Calls by group and height, and how often each call returned each number."""
+    """Calls by group and height, and how often each call returned each number. Gives what was never returned."""
     calls = collections.Counter()
     reached = collections.Counter()
     for cell in cells:
@@ -120,8 +137,11 @@ def report(cells, groups, heights):
     print("  %-10s" % "all", *["%6d" % sum(calls[group, height] for group in groups) for height in heights])
     print("numbers returned:")
     for call in wire.ASKED:
-        print("  %-10s" % call, ", ".join("%d: %d" % (number, n) for (name, number), n in sorted(reached.items()) if name == call))
-    return [(call, number) for call, numbers in cases.REACHED.items() for number in numbers if not reached[call, number]]
+        for profile in model.PROFILES:
+            print("  %-10s profile %d " % (call, profile), returned(reached, call, profile))
+    print("  by %d profiles that there are not: %d" % (
+        len(model.UNKNOWN), sum(n for (_, profile, number), n in reached.items() if profile not in model.PROFILES)))
+    return never(reached)
 
 
 def arguments(args):

@@ -62,9 +62,9 @@ def after_gap(hand):
 
 
 def too_many(hand):
-    """More keys than half the slots, in good order."""
-    most = model.most_keys(hand.h)
-    m = hand.rng.choice((most + 1, most + 1, most + hand.rng.randint(1, most), 2 * most))
+    """More keys than the profile allows, in good order."""
+    over, slots = model.most_keys(hand.profile, hand.h) + 1, model.SEGMENT * 2 ** hand.h
+    m = hand.rng.choice((over, over, hand.rng.randint(over, slots), slots))
     hand.list = some_list(hand.rng, spread(hand.rng, m, 2 ** hand.h))
 
 

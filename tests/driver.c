@@ -1,7 +1,7 @@
 /* Makes the calls that standard input asks for, and writes back what each returned and all the memory it was lent, with guards.
 
    Asked, in words of 64 bits, low byte first: the call (1 to 7, in the order of the header; 8, the run over lent totals as a struct),
-   its number (key, from or allowance),
+   the profile, the call's number (key, from or allowance),
    the lengths of the six slices below in elements; then their contents. A slice that the call does not take is left alone.
    Answered: the word returned; then each slice with GUARD bytes before it and after it, as they now are. */
 #include "ffalwenog.h"
@@ -12,7 +12,7 @@
 
 enum { LIST, FORECAST, REQUESTS, TOTALS, OUTPUT, REPLY, SLICES };
 enum { MAKE = 1, CHECK, LOOKUP, INSERT, DELETE, SCAN, RUN, OVER };
-enum { GUARD = 32, MOST = 1 << 20, HEAD = 2 + SLICES };
+enum { GUARD = 32, MOST = 1 << 20, HEAD = 3 + SLICES };
 
 static const size_t width[SLICES] = {8, 8, 1, 4, 8, 8};
 
@@ -45,24 +45,24 @@ static void lend(struct slice *s, size_t element, size_t length)
     must(fread(s->content, 1, s->size, stdin) == s->size, "a call cut short");
 }
 
-static uint64_t call(uint64_t ask, uint64_t number, struct slice *s)
+static uint64_t call(uint64_t ask, uint64_t profile, uint64_t number, struct slice *s)
 {
     uint64_t *list = s[LIST].content, *forecast = s[FORECAST].content, *output = s[OUTPUT].content, *reply = s[REPLY].content;
     size_t n = s[LIST].length, f = s[FORECAST].length, r = s[REPLY].length;
 
     switch (ask) {
-    case MAKE: return ff_make(list, n, forecast, f);
-    case CHECK: return ff_check(list, n, forecast, f);
-    case LOOKUP: return ff_lookup(list, n, number, reply, r);
-    case INSERT: return ff_insert(list, n, forecast, f, number, reply, r);
-    case DELETE: return ff_delete(list, n, forecast, f, number, reply, r);
-    case SCAN: return ff_scan(list, n, number, output, s[OUTPUT].length, reply, r);
+    case MAKE: return ff_make(profile, list, n, forecast, f);
+    case CHECK: return ff_check(profile, list, n, forecast, f);
+    case LOOKUP: return ff_lookup(profile, list, n, number, reply, r);
+    case INSERT: return ff_insert(profile, list, n, forecast, f, number, reply, r);
+    case DELETE: return ff_delete(profile, list, n, forecast, f, number, reply, r);
+    case SCAN: return ff_scan(profile, list, n, number, output, s[OUTPUT].length, reply, r);
     case RUN:
-        return ff_run(list, n, forecast, f, s[REQUESTS].content, s[REQUESTS].length, number, s[TOTALS].content, s[TOTALS].length,
-                      reply, r);
+        return ff_run(profile, list, n, forecast, f, s[REQUESTS].content, s[REQUESTS].length, number, s[TOTALS].content,
+                      s[TOTALS].length, reply, r);
     case OVER:
         must(f == FF_FORECAST && s[TOTALS].length == FF_TOTALS && r >= 4 && has_room(forecast), "no room");
-        return run_over(list, n, forecast, s[REQUESTS].content, s[REQUESTS].length, number, s[TOTALS].content, reply);
+        return run_over(profile, list, n, forecast, s[REQUESTS].content, s[REQUESTS].length, number, s[TOTALS].content, reply);
     }
     must(0, "no such call");
     return 0;
@@ -75,8 +75,8 @@ int main(void)
 
     while (fread(head, sizeof head, 1, stdin) == 1) {
         for (int i = 0; i < SLICES; i++)
-            lend(&lent[i], width[i], head[2 + i]);
-        uint64_t returned = call(head[0], head[1], lent);
+            lend(&lent[i], width[i], head[3 + i]);
+        uint64_t returned = call(head[0], head[1], head[2], lent);
         fwrite(&returned, sizeof returned, 1, stdout);
         for (int i = 0; i < SLICES; i++) {
             fwrite(lent[i].guarded, 1, lent[i].size + 2 * GUARD, stdout);

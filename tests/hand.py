@@ -1,4 +1,4 @@
-"""The hand that lends: a list, a forecast and totals that go from call to call."""
+"""The hand that lends: a list, a forecast and totals that go from call to call, mostly by the profile that they were made for."""
 import model
 import oracle
 from starts import TOP, any_counts, some_forecast, some_list
@@ -8,9 +8,10 @@ from wire import Lent
 class Hand:
     """focus: the live key round which the calls go on."""
 
-    def __init__(self, rng, h, counts=any_counts):
+    def __init__(self, rng, h, counts=any_counts, profile=None):
         self.rng, self.h = rng, h
-        counts, segment = counts(rng, h)
+        self.profile = profile or rng.choice(model.PROFILES)
+        counts, segment = counts(rng, self.profile, h)
         self.list = some_list(rng, counts)
         self.focus = self.one_live()
         if segment is not None:
@@ -34,14 +35,24 @@ class Hand:
         """A key beside a live one, or the live one."""
         return min(TOP, max(0, self.one_live() + self.rng.randint(-2, 2)))
 
+    def other(self):
+        """The other profile."""
+        return 3 - self.profile
+
+    def named(self):
+        """The profile that a call names: the hand's; seldom the other, or a number that names none."""
+        way = self.rng.random()
+        return self.profile if way < 0.95 else self.other() if way < 0.985 else self.rng.choice(model.UNKNOWN)
+
     def junk(self, n):
         """Words to find again, or to see overwritten."""
         return [self.rng.randint(1, TOP) for _ in range(n)]
 
-    def lend(self, call, number=0, requests=b"", room=0):
+    def lend(self, call, number=0, requests=b"", room=0, profile=None):
         """A call with all that it takes; its reply is at times longer than listed."""
         reply = oracle.LISTED[call]
-        lent = Lent(call, number, self.list, reply=self.junk(reply + self.rng.choice((0, 0, 1, 3))))
+        profile = self.named() if profile is None else profile
+        lent = Lent(call, profile, number, self.list, reply=self.junk(reply + self.rng.choice((0, 0, 1, 3))))
         if call in oracle.WITH_FORECAST:
             lent.forecast = self.forecast
         if call == "run":

@@ -24,7 +24,7 @@ def changes(n):
         key = rng.choice(live) if kind == 2 or live and rng.random() < 0.05 else rng.randint(1, 2 ** 64 - 1)
         if kind == 2:
             live.remove(key)
-        elif key not in live and len(live) < model.most_keys(2):
+        elif key not in live and len(live) < model.most_keys(1, 2):
             live.append(key)
         data.append(model.record(kind, key))
     return b"".join(data)

@@ -1,27 +1,34 @@
 #!/usr/bin/env python3
-"""Reference model of the paper "Requirements and rules for the build".
+"""Reference model of the paper "Requirements and rules for the build", with
+the tighter profile of "Further requests from customers", (v).
 
 Section names in the comments are that paper's. Every rule is written as it is
 read there, plainly and slowly. No call changes what it is lent: each hands
 back new lists.
 
+  profile   1 or 2; any other number is refused by 15
   array     a list of whole numbers, 0 for a gap
   forecast  a pair (used, cells), cells a list of 12 [marker, segment, count],
             head (newest) first
   totals    [records worked, refused, keys moved, sweeps]
 
-  make(slots)                   -> (number, slots', forecast')
-  check(slots, forecast)        -> number
-  lookup(slots, key)            -> (number, present, segment)
-  insert(slots, forecast, key)  -> (number, moves, slots', forecast')
-  delete(slots, forecast, key)  -> (number, moves, sparse, slots', forecast')
-  scan(slots, a, output)        -> (number, written, more, output')
-  run(slots, forecast, data, allowance, totals)
+  make(profile, slots)           -> (number, slots', forecast')
+  check(profile, slots, forecast)
+        -> number
+  lookup(profile, slots, key)    -> (number, present, segment)
+  insert(profile, slots, forecast, key)
+        -> (number, moves, slots', forecast')
+  delete(profile, slots, forecast, key)
+        -> (number, moves, sparse, slots', forecast')
+  scan(profile, slots, a, output)
+        -> (number, written, more, output')
+  run(profile, slots, forecast, data, allowance, totals)
         -> (worked, refused, moves, stop, place, slots', forecast', totals')
-  first_fault(slots)                 -> None or (slot, 'order' or 'gap')
-  first_bad_cell(slots, forecast)    -> None or (cell, reason)
+  first_fault(slots)             -> None or (slot, 'order' or 'gap')
+  first_bad_cell(profile, slots, forecast)
+        -> None or (cell, reason)
 
-  python3 model.py --selftest          the paper's sums
+  python3 model.py --selftest          the paper's sums, and profile 2's
   python3 model.py --listrun < file    the program `listrun`
   python3 model.py --random [n [seed]] the demands, tried on random requests
 """
@@ -30,6 +37,7 @@ import os
 import sys
 from fractions import Fraction
 
+PROFILES = (1, 2)
 SEGMENT = 64        # slots in a segment
 ROOM = 12           # cells kept in a forecast
 
@@ -42,11 +50,6 @@ def height(slots):
         if len(slots) == SEGMENT * 2 ** h:
             return h
     return None
-
-
-def most_keys(h):
-    """A list never holds more than this."""
-    return 32 * 2 ** h
 
 
 def live_keys(slots):
@@ -81,19 +84,45 @@ def window_start(segment, level):
 
 # ---- High and low shares -------------------------------------------------
 
-def high(h, l):
-    """32(2h - l)/h rounded down."""
-    return 32 * (2 * h - l) // h
+def high(profile, h, l):
+    """Rounded down: 32(2h - l)/h; in profile 2, 64(92h - 22l)/(100h)."""
+    if profile == 1:
+        return 32 * (2 * h - l) // h
+    return 64 * (92 * h - 22 * l) // (100 * h)
 
 
-def low(h, l):
-    """32(h + l)/(5h) rounded up."""
-    return (32 * (h + l) + 5 * h - 1) // (5 * h)
+def low(profile, h, l):
+    """Rounded up: 32(h + l)/(5h); in profile 2, 64(8h + 22l)/(100h)."""
+    if profile == 1:
+        return (32 * (h + l) + 5 * h - 1) // (5 * h)
+    return (64 * (8 * h + 22 * l) + 100 * h - 1) // (100 * h)
 
 
-def within_limits(h, l, count):
+def within_limits(profile, h, l, count):
     """A window of level l with this count is within limits."""
-    return 2 ** l * low(h, l) <= count <= 2 ** l * high(h, l)
+    return 2 ** l * low(profile, h, l) <= count <= 2 ** l * high(profile, h, l)
+
+
+def most_keys(profile, h):
+    """A list never holds more: 32 * 2^h; in profile 2, 44 * 2^h."""
+    return 2 ** h * high(profile, h, h)
+
+
+def few_keys(profile, h):
+    """A list of fewer is sparse: 13 * 2^h; in profile 2, 20 * 2^h."""
+    return 2 ** h * low(profile, h, h)
+
+
+def overflows(profile, h, keys):
+    """One key more in a segment of these makes a sweep: it holds 64; in
+    profile 2, 58 or more."""
+    return len(keys) >= high(profile, h, 0)
+
+
+def too_few(profile, h, keys):
+    """A delete that leaves a segment these makes a sweep: under 7; in
+    profile 2, under 6."""
+    return len(keys) < low(profile, h, 0)
 
 
 # ---- The forecast --------------------------------------------------------
@@ -171,7 +200,7 @@ def weights_of(forecast):
 
 # ---- Sharing out a swept window ------------------------------------------
 
-def left_share(h, l, weights, front):
+def left_share(profile, h, l, weights, front):
     """Keys the left half takes.
 
     weights: one for each key of the window, in order. front: the front's
@@ -181,8 +210,8 @@ def left_share(h, l, weights, front):
     if front == 0 and all(w == 0 for w in weights):
         return (m + 1) // 2                     # m/2 rounded up
     C = 32 * 2 ** l                             # slots of each half
-    least = 2 ** (l - 1) * low(h, l)
-    most = 2 ** (l - 1) * high(h, l)
+    least = 2 ** (l - 1) * low(profile, h, l)
+    most = 2 ** (l - 1) * high(profile, h, l)
     total = front + sum(weights)
     left = front                                # weight of the first i keys
     best = None
@@ -202,17 +231,18 @@ def left_share(h, l, weights, front):
     return best[2]
 
 
-def share_out(h, l, start, keys, weights):
+def share_out(profile, h, l, start, keys, weights):
     """Key lists for the segments of the window of level l at segment start."""
     if l == 0:
         return [keys]
     front = weights.get(0, 0) if start == 0 else 0
-    i = left_share(h, l, [weights.get(key, 0) for key in keys], front)
-    return (share_out(h, l - 1, start, keys[:i], weights)
-            + share_out(h, l - 1, start + 2 ** (l - 1), keys[i:], weights))
+    i = left_share(profile, h, l, [weights.get(key, 0) for key in keys], front)
+    return (share_out(profile, h, l - 1, start, keys[:i], weights)
+            + share_out(profile, h, l - 1, start + 2 ** (l - 1), keys[i:],
+                        weights))
 
 
-# ---- Refusals 1 to 4 -----------------------------------------------------
+# ---- Refusals 15 and 1 to 4 ----------------------------------------------
 
 def first_fault(slots):
     """First slot that breaks refusal 2's rule, order tested first.
@@ -237,28 +267,30 @@ def first_fault(slots):
     return None
 
 
-def list_refusal(slots):
-    """Refusals 1 to 3, or 0."""
+def list_refusal(profile, slots):
+    """Refusals 15 and 1 to 3, or 0."""
+    if profile not in PROFILES:
+        return 15
     h = height(slots)
     if h is None:
         return 1
     if first_fault(slots) is not None:
         return 2
-    if len(live_keys(slots)) > most_keys(h):
+    if len(live_keys(slots)) > most_keys(profile, h):
         return 3
     return 0
 
 
-def first_bad_cell(slots, forecast, earlier_only=False):
+def first_bad_cell(profile, slots, forecast, earlier_only=False):
     """First cell, from the head, that refusal 4 speaks of, with the reason.
 
-    None when refusal 4 does not apply, and when one of 1 to 3 does.
+    None when refusal 4 does not apply, and when one before it does.
     (None, 'used') when over P cells are used: no single cell is at fault.
     A cell whose marker is another's is bad whichever of the two comes first;
     with earlier_only, only the later of the two is.
     """
     used, cells = copy_forecast(forecast)
-    if list_refusal(slots) != 0:
+    if list_refusal(profile, slots) != 0:
         return None
     P = most_cells(height(slots))
     if used > P:
@@ -282,24 +314,26 @@ def first_bad_cell(slots, forecast, earlier_only=False):
     return None
 
 
-def check(slots, forecast):
-    """Tests 1 to 4, gives 0 when none applies."""
-    number = list_refusal(slots)
-    if number == 0 and first_bad_cell(slots, forecast) is not None:
+def check(profile, slots, forecast):
+    """Tests 15 and 1 to 4, gives 0 when none applies."""
+    number = list_refusal(profile, slots)
+    if number == 0 and first_bad_cell(profile, slots, forecast) is not None:
         number = 4
     return number
 
 
 # ---- Making, lookup, scan ------------------------------------------------
 
-def make(slots):
+def make(profile, slots):
+    if profile not in PROFILES:
+        return (15, list(slots), as_forecast([]))
     if height(slots) is None:
         return (1, list(slots), as_forecast([]))
     return (0, [0] * len(slots), as_forecast([]))
 
 
-def lookup(slots, key):
-    number = list_refusal(slots)
+def lookup(profile, slots, key):
+    number = list_refusal(profile, slots)
     if number == 0 and key == 0:
         number = 5
     if number != 0:
@@ -309,9 +343,9 @@ def lookup(slots, key):
     return (0, False, 0)
 
 
-def scan(slots, a, output):
+def scan(profile, slots, a, output):
     output = list(output)
-    number = list_refusal(slots)
+    number = list_refusal(profile, slots)
     if number != 0:
         return (number, 0, False, output)
     above = [key for key in live_keys(slots) if key > a]
@@ -328,11 +362,11 @@ def scan(slots, a, output):
 # (number, moves, sparse, window, slots', forecast'), window being None or the
 # chosen one as (level, first segment).
 
-def sweep(h, segments, at, l, extra, forecast):
+def sweep(profile, h, segments, at, l, extra, forecast):
     """Sweep the window of level l round segment at. Gives its moves."""
     start = window_start(at, l)
     keys = window_keys(segments, at, l, extra)
-    segments[start:start + 2 ** l] = share_out(h, l, start, keys,
+    segments[start:start + 2 ** l] = share_out(profile, h, l, start, keys,
                                                weights_of(forecast))
     return len(keys)
 
@@ -343,22 +377,23 @@ def window_keys(segments, at, l, extra):
     return sorted(sum(segments[start:start + 2 ** l], []) + extra)
 
 
-def smallest_within_limits(h, segments, at, extra):
+def smallest_within_limits(profile, h, segments, at, extra):
     """Level of the smallest enclosing window within limits, or None."""
     for l in range(1, h + 1):
-        if within_limits(h, l, len(window_keys(segments, at, l, extra))):
+        count = len(window_keys(segments, at, l, extra))
+        if within_limits(profile, h, l, count):
             return l
     return None
 
 
-def work_insert(slots, forecast, y):
+def work_insert(profile, slots, forecast, y):
     h = height(slots)
     number = 0
     if y == 0:
         number = 5
     elif y in slots:
         number = 6
-    elif len(live_keys(slots)) == most_keys(h):
+    elif len(live_keys(slots)) == most_keys(profile, h):
         number = 8
     if number != 0:
         return (number, 0, False, None, list(slots), copy_forecast(forecast))
@@ -370,20 +405,20 @@ def work_insert(slots, forecast, y):
 
     segments = to_segments(slots)
     window = None
-    if len(segments[at]) < SEGMENT:
+    if not overflows(profile, h, segments[at]):
         shifted = [key for key in segments[at] if key > y]
         moves = len(shifted) + 1
         segments[at] = sorted(segments[at] + [y])
     else:
-        l = smallest_within_limits(h, segments, at, [y])
+        l = smallest_within_limits(profile, h, segments, at, [y])
         assert l is not None, 'the whole array is within limits if no smaller'
-        moves = sweep(h, segments, at, l, [y], forecast)
+        moves = sweep(profile, h, segments, at, l, [y], forecast)
         window = (l, window_start(at, l))
     slots = to_slots(segments)
     return (0, moves, False, window, slots, retarget(forecast, slots))
 
 
-def work_delete(slots, forecast, y):
+def work_delete(profile, slots, forecast, y):
     h = height(slots)
     number = 0
     if y == 0:
@@ -399,30 +434,31 @@ def work_delete(slots, forecast, y):
     moves = len([key for key in segments[at] if key > y])
     segments[at].remove(y)
     window = None
-    if len(segments[at]) < 7:
-        l = smallest_within_limits(h, segments, at, [])
+    if too_few(profile, h, segments[at]):
+        l = smallest_within_limits(profile, h, segments, at, [])
         if l is not None:
-            moves = sweep(h, segments, at, l, [], forecast)
+            moves = sweep(profile, h, segments, at, l, [], forecast)
             window = (l, window_start(at, l))
     slots = to_slots(segments)
-    sparse = len(live_keys(slots)) < 13 * 2 ** h
+    sparse = len(live_keys(slots)) < few_keys(profile, h)
     return (0, moves, sparse, window, slots, retarget(forecast, slots))
 
 
-def insert(slots, forecast, key):
-    number = check(slots, forecast)
+def insert(profile, slots, forecast, key):
+    number = check(profile, slots, forecast)
     if number != 0:
         return (number, 0, list(slots), copy_forecast(forecast))
-    number, moves, _, _, slots, forecast = work_insert(slots, forecast, key)
+    number, moves, _, _, slots, forecast = work_insert(profile, slots,
+                                                       forecast, key)
     return (number, moves, slots, forecast)
 
 
-def delete(slots, forecast, key):
-    number = check(slots, forecast)
+def delete(profile, slots, forecast, key):
+    number = check(profile, slots, forecast)
     if number != 0:
         return (number, 0, False, list(slots), copy_forecast(forecast))
-    number, moves, sparse, _, slots, forecast = work_delete(slots, forecast,
-                                                            key)
+    number, moves, sparse, _, slots, forecast = work_delete(profile, slots,
+                                                            forecast, key)
     return (number, moves, sparse, slots, forecast)
 
 
@@ -436,11 +472,11 @@ def record(kind, key):
     return bytes([0xA5, 0x5A, kind]) + key.to_bytes(8, 'big')
 
 
-def run(slots, forecast, data, allowance, totals):
+def run(profile, slots, forecast, data, allowance, totals):
     slots = list(slots)
     forecast = copy_forecast(forecast)
     totals = list(totals)
-    number = check(slots, forecast)
+    number = check(profile, slots, forecast)
     if number != 0:
         return (0, 0, 0, number, 0, slots, forecast, totals)
 
@@ -455,7 +491,7 @@ def run(slots, forecast, data, allowance, totals):
         key = int.from_bytes(one[3:11], 'big')
         work = work_insert if one[2] == 1 else work_delete
         number, moves, _, window, slots_after, forecast_after = work(
-            slots, forecast, key)
+            profile, slots, forecast, key)
         if moved + moves > allowance:
             stop = 10
             break
@@ -476,10 +512,10 @@ def run(slots, forecast, data, allowance, totals):
 # ---- The program listrun -------------------------------------------------
 
 def listrun_text(data):
-    """What `listrun` prints for these (at most 65,536) bytes."""
-    _, slots, forecast = make([0] * 256)
+    """What `listrun` prints for these (at most 65,536) bytes; profile 1."""
+    _, slots, forecast = make(1, [0] * 256)
     _, _, moves, stop, _, slots, forecast, totals = run(
-        slots, forecast, data, 1000000, [0, 0, 0, 0])
+        1, slots, forecast, data, 1000000, [0, 0, 0, 0])
     lines = ['keys %d moved %d swept %d stop %d'
              % (len(live_keys(slots)), moves, totals[3], stop)]
     for n, keys in enumerate(to_segments(slots)):
@@ -521,42 +557,105 @@ def counts(slots):
     return [len(keys) for keys in to_segments(slots)]
 
 
-def list_with(*sizes):
-    """An array whose segments hold these many keys: 1, 2, 3 ... in order."""
-    segments, key = [], 1
+def list_with(*sizes, step=1):
+    """An array whose segments hold these many keys, `step` apart from it on."""
+    segments, key = [], step
     for size in sizes:
-        segments.append(list(range(key, key + size)))
-        key += size
+        segments.append(list(range(key, key + step * size, step)))
+        key += step * size
     return to_slots(segments)
 
 
 def insert_all(h, keys):
-    """Insert into an empty list; gives the last moves, slots, forecast."""
-    _, slots, forecast = make([0] * (SEGMENT * 2 ** h))
+    """Insert into an empty list, in profile 1; gives the last moves, slots,
+    forecast."""
+    _, slots, forecast = make(1, [0] * (SEGMENT * 2 ** h))
     for key in keys:
-        number, moves, slots, forecast = insert(slots, forecast, key)
+        number, moves, slots, forecast = insert(1, slots, forecast, key)
         assert number == 0
     return moves, slots, forecast
 
 
-TABLE = {   # the paper's printed rows, used here only, against the formulas
-    1: ([64, 32], [7, 13]),
-    2: ([64, 48, 32], [7, 10, 13]),
-    3: ([64, 53, 42, 32], [7, 9, 11, 13]),
-    4: ([64, 56, 48, 40, 32], [7, 8, 10, 12, 13]),
-    5: ([64, 57, 51, 44, 38, 32], [7, 8, 9, 11, 12, 13]),
-    6: ([64, 58, 53, 48, 42, 37, 32], [7, 8, 9, 10, 11, 12, 13]),
+# Rows by hand, against the formulas: the paper's, and profile 2's.
+TABLE = {
+    1: {1: ([64, 32], [7, 13]),
+        2: ([64, 48, 32], [7, 10, 13]),
+        3: ([64, 53, 42, 32], [7, 9, 11, 13]),
+        4: ([64, 56, 48, 40, 32], [7, 8, 10, 12, 13]),
+        5: ([64, 57, 51, 44, 38, 32], [7, 8, 9, 11, 12, 13]),
+        6: ([64, 58, 53, 48, 42, 37, 32], [7, 8, 9, 10, 11, 12, 13])},
+    2: {1: ([58, 44], [6, 20]),
+        2: ([58, 51, 44], [6, 13, 20]),
+        3: ([58, 54, 49, 44], [6, 10, 15, 20]),
+        4: ([58, 55, 51, 48, 44], [6, 9, 13, 16, 20]),
+        5: ([58, 56, 53, 50, 47, 44], [6, 8, 11, 14, 17, 20]),
+        6: ([58, 56, 54, 51, 49, 47, 44], [6, 8, 10, 13, 15, 17, 20])},
 }
+
+# Profile 2 worked by hand, h = 1, no cells. Keys stand 10 apart: the counts,
+# the request; its number, moves and sparse, and the counts after it.
+SECOND = [
+    ((57, 1), (insert, 571), (0, 1, False, [58, 1])),
+    ((58, 1), (insert, 581), (0, 60, False, [40, 20])),
+    ((58, 1), (insert, 5), (0, 60, False, [20, 40])),
+    ((64, 23), (insert, 15), (0, 88, False, [44, 44])),
+    ((64, 24), (insert, 15), (8, 0, False, [64, 24])),
+    ((6, 34), (delete, 20), (0, 4, True, [5, 34])),
+    ((6, 35), (delete, 20), (0, 40, False, [20, 20])),
+    ((7, 35), (delete, 20), (0, 5, False, [6, 35])),
+    ((60, 10), (delete, 450), (0, 15, False, [59, 10])),
+    ((60, 10), (insert, 455), (0, 71, False, [44, 27])),
+]
+
+UNKNOWN = (0, 3, 2 ** 32 + 1, 2 ** 32 + 2, 2 ** 63, 2 ** 64 - 1)
+
+
+def second_profile(t):
+    """Profile 2's own sums, and what the profiles make of each other's lists."""
+    empty = as_forecast([])
+    for sizes, (call, key), wanted in SECOND:
+        number, moves, *sparse, slots, _ = call(2, list_with(*sizes, step=10),
+                                                empty, key)
+        t.same('profile 2, %r, %s %d' % (sizes, call.__name__, key),
+               (number, moves, any(sparse), counts(slots)), wanted)
+    for sizes, first, second in (((64, 0), 0, 0), ((64, 1), 3, 0),
+                                 ((24, 64), 3, 0), ((25, 64), 3, 3)):
+        slots = list_with(*sizes)
+        t.same('%r in both' % (sizes,), (check(1, slots, empty),
+                                         check(2, slots, empty)),
+               (first, second))
+
+
+def unknown_profiles(t):
+    """15 comes first of all, and leaves all that is lent."""
+    empty, bad = as_forecast([]), (13, [[9, 9, 9]] * ROOM)
+    for profile in UNKNOWN:
+        for slots in (list_with(5, 3), [5, 4, 0], list_with(64, 64)):
+            t.same('15, make', make(profile, slots), (15, slots, empty))
+            t.same('15, check', check(profile, slots, bad), 15)
+            t.same('15, lookup', lookup(profile, slots, 0), (15, False, 0))
+            t.same('15, scan', scan(profile, slots, 0, [9]),
+                   (15, 0, False, [9]))
+            t.same('15, insert', insert(profile, slots, bad, 0),
+                   (15, 0, slots, bad))
+            t.same('15, delete', delete(profile, slots, bad, 0),
+                   (15, 0, False, slots, bad))
+            t.same('15, run', run(profile, slots, bad, b'?', 9, [1, 2, 3, 4]),
+                   (0, 0, 0, 15, 0, slots, bad, [1, 2, 3, 4]))
 
 
 def selftest():
     t = Tally()
     empty = as_forecast([])
 
-    for h in TABLE:
-        t.same('shares h=%d' % h,
-               ([high(h, l) for l in range(h + 1)],
-                [low(h, l) for l in range(h + 1)]), TABLE[h])
+    for profile in PROFILES:
+        for h in TABLE[profile]:
+            t.same('shares of profile %d, h=%d' % (profile, h),
+                   ([high(profile, h, l) for l in range(h + 1)],
+                    [low(profile, h, l) for l in range(h + 1)]),
+                   TABLE[profile][h])
+    second_profile(t)
+    unknown_profiles(t)
 
     moves, slots, forecast = insert_all(2, range(1, 66))
     t.same('sum 1', (moves, counts(slots), forecast[0]),
@@ -567,47 +666,48 @@ def selftest():
            (65, [17, 48, 0, 0], as_forecast([[0, 0, 7]])))
 
     for key in range(1, 8):
-        number, moves, sparse, slots, _ = delete(list_with(7, 30), empty, key)
+        number, moves, sparse, slots, _ = delete(1, list_with(7, 30), empty, key)
         t.same('sum 3, key %d' % key, (number, moves, counts(slots)),
                (0, 36, [18, 18]))
-        number, moves, sparse, slots, _ = delete(list_with(7, 19), empty, key)
+        number, moves, sparse, slots, _ = delete(1, list_with(7, 19), empty, key)
         t.same('sum 4, key %d' % key, (number, moves, sparse, counts(slots)),
                (0, 7 - key, True, [6, 19]))
-        number, moves, sparse, slots, _ = delete(list_with(7, 20), empty, key)
+        number, moves, sparse, slots, _ = delete(1, list_with(7, 20), empty, key)
         t.same('sum 5, key %d' % key, (number, moves, sparse, counts(slots)),
                (0, 26, False, [13, 13]))
 
     weights = [1 if n in (10, 30) else 0 for n in range(1, 38)]
-    t.same('sum 6', left_share(1, 1, weights, 0), 18)
+    t.same('sum 6', left_share(1, 1, 1, weights, 0), 18)
     t.same('sum 6, tie', abs(Fraction(1, 64 - 18) - Fraction(1, 64 - 37 + 18)),
            abs(Fraction(1, 64 - 19) - Fraction(1, 64 - 37 + 19)))
-    t.same('sum 7', left_share(1, 1, [0] * 37, 0), 19)
+    t.same('sum 7', left_share(1, 1, 1, [0] * 37, 0), 19)
 
     full = list_with(64, 0)
-    t.same('sum 8, new', insert(full, empty, 65), (8, 0, full, empty))
-    t.same('sum 8, present', insert(full, empty, 5), (6, 0, full, empty))
+    t.same('sum 8, new', insert(1, full, empty, 65), (8, 0, full, empty))
+    t.same('sum 8, present', insert(1, full, empty, 5), (6, 0, full, empty))
 
     one = as_forecast([[7, 0, 3]])
-    number, _, _, _, forecast = delete(list_with(10, 20), one, 7)
+    number, _, _, _, forecast = delete(1, list_with(10, 20), one, 7)
     t.same('sum 9', (number, forecast), (0, empty))
 
     for n in (0, 64, 192, 8192):
         wrong = [0] * n
-        t.same('sum 10, make %d' % n, make(wrong), (1, wrong, empty))
-        t.same('sum 10, check %d' % n, check(wrong, empty), 1)
-        t.same('sum 10, lookup %d' % n, lookup(wrong, 1), (1, False, 0))
-        t.same('sum 10, insert %d' % n, insert(wrong, empty, 1),
+        t.same('sum 10, make %d' % n, make(1, wrong), (1, wrong, empty))
+        t.same('sum 10, check %d' % n, check(1, wrong, empty), 1)
+        t.same('sum 10, lookup %d' % n, lookup(1, wrong, 1), (1, False, 0))
+        t.same('sum 10, insert %d' % n, insert(1, wrong, empty, 1),
                (1, 0, wrong, empty))
-        t.same('sum 10, delete %d' % n, delete(wrong, empty, 1),
+        t.same('sum 10, delete %d' % n, delete(1, wrong, empty, 1),
                (1, 0, False, wrong, empty))
-        t.same('sum 10, scan %d' % n, scan(wrong, 0, [9]), (1, 0, False, [9]))
+        t.same('sum 10, scan %d' % n, scan(1, wrong, 0, [9]),
+               (1, 0, False, [9]))
         t.same('sum 10, run %d' % n,
-               run(wrong, empty, record(1, 1), 100, [1, 2, 3, 4]),
+               run(1, wrong, empty, record(1, 1), 100, [1, 2, 3, 4]),
                (0, 0, 0, 1, 0, wrong, empty, [1, 2, 3, 4]))
 
     some = list_with(5, 3)
     for a, more in ((0, True), (7, True), (8, False), (2 ** 64 - 1, False)):
-        t.same('sum 11, above %d' % a, scan(some, a, []), (0, 0, more, []))
+        t.same('sum 11, above %d' % a, scan(1, some, a, []), (0, 0, more, []))
 
     t.same('listrun sample',
            listrun_text(b''.join(record(1, k) for k in range(1, 66))),
@@ -617,12 +717,13 @@ def selftest():
 
 # ---- The demands, tried on random requests -------------------------------
 
-def left_share_by_fractions(h, l, weights, front):
+def left_share_by_fractions(profile, h, l, weights, front):
     """The sharing rule again, one line, with exact fractions."""
     m, C = len(weights), 32 * 2 ** l
     if front + sum(weights) == 0:
         return -(-m // 2)
-    lo, hi = 2 ** (l - 1) * low(h, l), 2 ** (l - 1) * high(h, l)
+    lo = 2 ** (l - 1) * low(profile, h, l)
+    hi = 2 ** (l - 1) * high(profile, h, l)
     return min((i for i in range(m + 1) if lo <= i <= hi and lo <= m - i <= hi),
                key=lambda i: (abs(Fraction(front + sum(weights[:i]), C - i)
                                   - Fraction(sum(weights[i:]), C - m + i)), i))
@@ -657,126 +758,139 @@ MOODS = ('empty out', 'thin', 'rising', 'falling', 'behind one', 'before one',
          'odd', 'anywhere')
 
 
+def random_requests(t, rng, profile, h, n):
+    """n of them, one profile and height, each held to a plain sorted set."""
+    _, slots, forecast = make(profile, [0] * (SEGMENT * 2 ** h))
+    totals = [rng.randrange(2 ** 32) for _ in range(4)]
+    plain = set()
+    since = {}      # swept windows: (level, start) -> [net left, net right]
+    left = 0
+    for _ in range(n):
+        keys = sorted(plain)
+        if left == 0:
+            left = rng.randint(1, 40 * 2 ** h)
+            base = rng.choice(keys) if keys else 2 ** 63
+            mood = (rng.choice(MOODS), base)
+        left -= 1
+        kind, key = random_request(rng, h, keys, mood)
+        lent = (list(slots), copy_forecast(forecast))
+
+        # The expected number, from the plain sorted set (demand 2).
+        wanted = 0
+        if key == 0:
+            wanted = 5
+        elif kind == 1 and key in plain:
+            wanted = 6
+        elif kind == 2 and key not in plain:
+            wanted = 7
+        elif kind == 1 and len(plain) == most_keys(profile, h):
+            wanted = 8
+        work = work_insert if kind == 1 else work_delete
+        number, moves, sparse, window, after, fc = work(profile, slots,
+                                                       forecast, key)
+        t.same('number', number, wanted)
+        t.same('lent things stay', (slots, forecast), lent)
+        if kind == 1:
+            t.same('insert', insert(profile, slots, forecast, key),
+                   (number, moves, after, fc))
+        else:
+            t.same('delete', delete(profile, slots, forecast, key),
+                   (number, moves, sparse, after, fc))
+        if number != 0:
+            t.same('refused', (moves, sparse, window, after, fc),
+                   (0, False, None) + lent)
+        else:
+            (plain.add if kind == 1 else plain.remove)(key)
+
+        # A run of the one record gives the same; one move less stops it.
+        got = run(profile, slots, forecast, record(kind, key), moves,
+                  totals)
+        more = [1, int(number != 0), moves, int(window is not None)]
+        sums = [(a + b) % 2 ** 32 for a, b in zip(totals, more)]
+        t.same('run', got, (1, more[1], moves, 0, 11, after, fc, sums))
+        if moves > 0:
+            got = run(profile, slots, forecast, record(kind, key),
+                      moves - 1, totals)
+            t.same('run stopped', got,
+                   (0, 0, 0, 10, 0, slots, forecast, totals))
+        totals = sums
+
+        # Which segment the request falls in.
+        x = max([k for k in keys if k < key], default=0)
+        if number == 0 and kind == 2:
+            x = key
+        at = 0 if x == 0 else segment_of(slots, x)
+
+        # Demand 3, second part, for every swept window round the segment.
+        if number == 0:
+            net = 1 if kind == 1 else -1
+            for l in range(1, h + 1):
+                at_window = (l, window_start(at, l))
+                side = (at >> (l - 1)) & 1
+                if at_window in since:
+                    since[at_window][side] += net
+                    if window is not None and l <= window[0]:
+                        gap_high = (high(profile, h, l - 1)
+                                    - high(profile, h, l))
+                        gap_low = (low(profile, h, l)
+                                   - low(profile, h, l - 1))
+                        taken = since[at_window][side]
+                        t.same('demand 3, taken',
+                               taken > gap_high * 2 ** (l - 1)
+                               or -taken > gap_low * 2 ** (l - 1), True)
+        if window is not None:
+            level, start = window
+            for l in range(1, level + 1):
+                for s in range(start, start + 2 ** level, 2 ** l):
+                    since[(l, s)] = [0, 0]
+            # Demand 3, first part.
+            sizes = counts(after)
+            for l in range(0, level):
+                for s in range(start, start + 2 ** level, 2 ** l):
+                    held = sum(sizes[s:s + 2 ** l])
+                    t.same('demand 3, held',
+                           2 ** l * low(profile, h, l + 1) <= held
+                           <= 2 ** l * high(profile, h, l + 1), True)
+            t.same('sweep moves', moves,
+                   sum(sizes[start:start + 2 ** level]))
+
+            # The split of the chosen window, by fractions.
+            if rng.random() < 0.02 or h < 3:
+                inside = sum(to_segments(after)[start:start + 2 ** level],
+                             [])
+                ws = weights_of(fc)
+                front = ws.get(0, 0) if start == 0 else 0
+                t.same('split', sum(sizes[start:start + 2 ** (level - 1)]),
+                       left_share_by_fractions(
+                           profile, h, level,
+                           [ws.get(k, 0) for k in inside], front))
+
+        slots, forecast = after, fc
+        keys = sorted(plain)
+        t.same('keys', live_keys(slots), keys)
+        t.same('check', check(profile, slots, forecast), 0)
+        if kind == 2 and number == 0:
+            t.same('sparse', sparse, len(plain) < few_keys(profile, h))
+        t.same('lookup', lookup(profile, slots, key)[:2],
+               (5, False) if key == 0 else (0, key in plain))
+        room = rng.choice((0, 1, 5, 5000))
+        a = rng.choice((0, key, rng.randrange(2 ** 64)))
+        above = [k for k in keys if k > a]
+        out = [77] * room
+        t.same('scan', scan(profile, slots, a, out),
+               (0, min(room, len(above)), len(above) > room,
+                above[:room] + [77] * (room - len(above))))
+    print('profile %d, height %d: %d keys at the end'
+          % (profile, h, len(plain)))
+
+
 def random_test(n, seed):
     import random
     rng = random.Random(seed)
     t = Tally()
-    for h in range(1, 7):
-        _, slots, forecast = make([0] * (SEGMENT * 2 ** h))
-        totals = [rng.randrange(2 ** 32) for _ in range(4)]
-        plain = set()
-        since = {}      # swept windows: (level, start) -> [net left, net right]
-        left = 0
-        for _ in range(n):
-            keys = sorted(plain)
-            if left == 0:
-                left = rng.randint(1, 40 * 2 ** h)
-                base = rng.choice(keys) if keys else 2 ** 63
-                mood = (rng.choice(MOODS), base)
-            left -= 1
-            kind, key = random_request(rng, h, keys, mood)
-            lent = (list(slots), copy_forecast(forecast))
-
-            # The expected number, from the plain sorted set (demand 2).
-            wanted = 0
-            if key == 0:
-                wanted = 5
-            elif kind == 1 and key in plain:
-                wanted = 6
-            elif kind == 2 and key not in plain:
-                wanted = 7
-            elif kind == 1 and len(plain) == most_keys(h):
-                wanted = 8
-            work = work_insert if kind == 1 else work_delete
-            number, moves, sparse, window, after, fc = work(slots, forecast, key)
-            t.same('number', number, wanted)
-            t.same('lent things stay', (slots, forecast), lent)
-            if kind == 1:
-                t.same('insert', insert(slots, forecast, key),
-                       (number, moves, after, fc))
-            else:
-                t.same('delete', delete(slots, forecast, key),
-                       (number, moves, sparse, after, fc))
-            if number != 0:
-                t.same('refused', (moves, sparse, window, after, fc),
-                       (0, False, None) + lent)
-            else:
-                (plain.add if kind == 1 else plain.remove)(key)
-
-            # A run of the one record gives the same; one move less stops it.
-            got = run(slots, forecast, record(kind, key), moves, totals)
-            more = [1, int(number != 0), moves, int(window is not None)]
-            sums = [(a + b) % 2 ** 32 for a, b in zip(totals, more)]
-            t.same('run', got, (1, more[1], moves, 0, 11, after, fc, sums))
-            if moves > 0:
-                got = run(slots, forecast, record(kind, key), moves - 1, totals)
-                t.same('run stopped', got,
-                       (0, 0, 0, 10, 0, slots, forecast, totals))
-            totals = sums
-
-            # Which segment the request falls in.
-            x = max([k for k in keys if k < key], default=0)
-            if number == 0 and kind == 2:
-                x = key
-            at = 0 if x == 0 else segment_of(slots, x)
-
-            # Demand 3, second part, for every swept window round the segment.
-            if number == 0:
-                net = 1 if kind == 1 else -1
-                for l in range(1, h + 1):
-                    at_window = (l, window_start(at, l))
-                    side = (at >> (l - 1)) & 1
-                    if at_window in since:
-                        since[at_window][side] += net
-                        if window is not None and l <= window[0]:
-                            gap_high = high(h, l - 1) - high(h, l)
-                            gap_low = low(h, l) - low(h, l - 1)
-                            taken = since[at_window][side]
-                            t.same('demand 3, taken',
-                                   taken > gap_high * 2 ** (l - 1)
-                                   or -taken > gap_low * 2 ** (l - 1), True)
-            if window is not None:
-                level, start = window
-                for l in range(1, level + 1):
-                    for s in range(start, start + 2 ** level, 2 ** l):
-                        since[(l, s)] = [0, 0]
-                # Demand 3, first part.
-                sizes = counts(after)
-                for l in range(0, level):
-                    for s in range(start, start + 2 ** level, 2 ** l):
-                        held = sum(sizes[s:s + 2 ** l])
-                        t.same('demand 3, held',
-                               2 ** l * low(h, l + 1) <= held
-                               <= 2 ** l * high(h, l + 1), True)
-                t.same('sweep moves', moves,
-                       sum(sizes[start:start + 2 ** level]))
-
-                # The split of the chosen window, by fractions.
-                if rng.random() < 0.02 or h < 3:
-                    inside = sum(to_segments(after)[start:start + 2 ** level],
-                                 [])
-                    ws = weights_of(fc)
-                    front = ws.get(0, 0) if start == 0 else 0
-                    t.same('split', sum(sizes[start:start + 2 ** (level - 1)]),
-                           left_share_by_fractions(
-                               h, level, [ws.get(k, 0) for k in inside], front))
-
-            slots, forecast = after, fc
-            keys = sorted(plain)
-            t.same('keys', live_keys(slots), keys)
-            t.same('check', check(slots, forecast), 0)
-            if kind == 2 and number == 0:
-                t.same('sparse', sparse, len(plain) < 13 * 2 ** h)
-            t.same('lookup', lookup(slots, key)[:2],
-                   (5, False) if key == 0 else (0, key in plain))
-            room = rng.choice((0, 1, 5, 5000))
-            a = rng.choice((0, key, rng.randrange(2 ** 64)))
-            above = [k for k in keys if k > a]
-            out = [77] * room
-            t.same('scan', scan(slots, a, out),
-                   (0, min(room, len(above)), len(above) > room,
-                    above[:room] + [77] * (room - len(above))))
-        print('height %d: %d keys at the end' % (h, len(plain)))
+    for profile in PROFILES:
+        for h in range(1, 7):
+            random_requests(t, rng, profile, h, n)
     return t.close()
 
 

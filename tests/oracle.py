@@ -1,4 +1,4 @@
-"""What each call of the archive must return and leave, by the model of document 01 beside this file and the words of the header."""
+"""What each call of the archive must return and leave, by the model beside this file and the words of the header."""
 from dataclasses import replace
 
 import model
@@ -33,31 +33,31 @@ def worked(lent, reply, **changed):
 
 
 def make(lent):
-    number, slots, forecast = model.make(lent.list)
+    number, slots, forecast = model.make(lent.profile, lent.list)
     return number, worked(lent, [], list=slots, forecast=words(forecast))
 
 
 def check(lent):
-    return model.check(lent.list, cells(lent.forecast)), lent
+    return model.check(lent.profile, lent.list, cells(lent.forecast)), lent
 
 
 def lookup(lent):
-    number, *reply = model.lookup(lent.list, lent.number)
+    number, *reply = model.lookup(lent.profile, lent.list, lent.number)
     return number, worked(lent, reply)
 
 
 def change(lent):
-    number, *reply, slots, forecast = CHANGES[lent.call](lent.list, cells(lent.forecast), lent.number)
+    number, *reply, slots, forecast = CHANGES[lent.call](lent.profile, lent.list, cells(lent.forecast), lent.number)
     return number, worked(lent, reply, list=slots, forecast=words(forecast))
 
 
 def scan(lent):
-    number, *reply, output = model.scan(lent.list, lent.number, lent.output)
+    number, *reply, output = model.scan(lent.profile, lent.list, lent.number, lent.output)
     return number, worked(lent, reply, output=output)
 
 
 def run(lent):
-    ran = model.run(lent.list, cells(lent.forecast), lent.requests, lent.number, lent.totals)
+    ran = model.run(lent.profile, lent.list, cells(lent.forecast), lent.requests, lent.number, lent.totals)
     done, refused, moves, stop, place, slots, forecast, totals = ran
     return stop, worked(lent, [done, refused, moves, place], list=slots, forecast=words(forecast), totals=totals)
 

@@ -1,4 +1,5 @@
-"""Groups of calls that are refused: damaged lists, damaged forecasts, several faults at once, and slices of wrong sizes."""
+"""Groups of calls that are refused: damaged lists, damaged forecasts, several faults at once, unknown profiles, and slices of wrong
+sizes."""
 from dataclasses import replace
 
 import damage
@@ -12,18 +13,18 @@ from starts import TOP, spread
 EVERY = ("check", "lookup", "insert", "delete", "scan", "run")
 
 
-def keyed(rng, h):
+def keyed(rng, profile, h):
     """Keys in more than one segment, and neighbours in one of them."""
-    most = model.most_keys(h)
+    most = model.most_keys(profile, h)
     counts = spread(rng, rng.choice((most - 4, rng.randint(most // 2, most - 4))), 2 ** h)
     counts[0] = min(62, counts[0] + 2)
     counts[-1] = min(62, counts[-1] + 2)
     return counts, None
 
 
-def brimful(rng, h):
+def brimful(rng, profile, h):
     """As many keys as there may be."""
-    return spread(rng, model.most_keys(h), 2 ** h), None
+    return spread(rng, model.most_keys(profile, h), 2 ** h), None
 
 
 def some_number(hand, call):
@@ -33,11 +34,12 @@ def some_number(hand, call):
     return hand.rng.choice((0, hand.one_live(), hand.near_key(), hand.a_key()))
 
 
-def every_call(hand, calls=EVERY):
-    """Each of the calls once, on the same list and forecast while they are refused."""
+def every_call(hand, calls=EVERY, profiles=(None,)):
+    """Each of the calls once, on the same list and forecast while they are refused; by any of these profiles."""
     for call in hand.rng.sample(calls, len(calls)):
         records = b"".join(packed(hand.rng.choice(("insert", "delete")), hand.near_key()) for _ in range(3))
-        yield from hand.call(call, some_number(hand, call), requests=records, room=hand.rng.choice((0, 1, 5)))
+        yield from hand.call(call, some_number(hand, call), requests=records, room=hand.rng.choice((0, 1, 5)),
+                             profile=hand.rng.choice(profiles))
 
 
 def lists(rng, h, n):
@@ -65,12 +67,24 @@ def order(rng, h, n):
     if crowd < 0.5:
         damage.too_many(hand)
     elif crowd < 0.75:
-        hand.list = Hand(rng, h, brimful).list
+        hand.list = Hand(rng, h, brimful, hand.profile).list
     if rng.random() < 0.5:
         rng.choice(damage.ORDER)(hand)
     if rng.random() < 0.15:
         damage.length(hand)
     yield from every_call(hand)
+
+
+def unknown(rng, h, n):
+    """Profiles that there are not, on good lists and on any faults; then the list as it was, by both that there are."""
+    hand = Hand(rng, h, keyed)
+    if n % 2:
+        rng.choice(damage.FORECASTS)(hand)
+        rng.choice(damage.LISTS)(hand)
+    yield from every_call(hand, EVERY, model.UNKNOWN)
+    yield from every_call(hand, ("check", "lookup", "scan"), model.PROFILES)
+    yield from hand.call("make", profile=rng.choice(model.UNKNOWN))
+    yield from hand.call("make", profile=hand.profile)
 
 
 def wrong_sizes(call):
@@ -92,15 +106,16 @@ def resized(hand, lent, name, n):
 
 
 def sizes(rng, h, n):
-    """Wrong sizes come before all else, on good lists and on bad ones; longer replies are taken."""
+    """Wrong sizes come before all else, on good lists and on bad ones, by any profile; longer replies are taken."""
     hand = Hand(rng, h, keyed)
     if n % 2:
         rng.choice(damage.LISTS + damage.FORECASTS)(hand)
     for call in rng.sample(wire.CALLS, len(wire.CALLS)):
-        lent = hand.lend(call, some_number(hand, call), requests=packed("insert", hand.a_key()), room=3)
+        lent = hand.lend(call, some_number(hand, call), requests=packed("insert", hand.a_key()), room=3,
+                         profile=rng.choice((hand.profile, hand.profile, rng.choice(model.UNKNOWN))))
         for name, size in rng.sample(wrong_sizes(call), 2):
             yield resized(hand, lent, name, size)
         yield resized(hand, lent, "reply", oracle.LISTED[call] + rng.randint(1, 9))
 
 
-GROUPS = dict(lists=lists, forecasts=forecasts, order=order, sizes=sizes)
+GROUPS = dict(lists=lists, forecasts=forecasts, order=order, unknown=unknown, sizes=sizes)

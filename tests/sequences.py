@@ -1,5 +1,9 @@
-"""Sequences of changes, with lookups, scans, checks and runs between. A mood gives one change after another, as kind and key."""
+"""Sequences of changes, with lookups, scans, checks and runs between. A mood gives one change after another, as kind and key.
+
+Nearly all calls of a sequence name one profile; in the group `turns` the hand's profile changes now and then.
+"""
 import model
+import oracle
 from hand import Hand
 from starts import TOP, any_counts, nearly_empty, nearly_full, overfull, thin, underfull
 
@@ -103,9 +107,9 @@ def take(requests, n):
     return b"".join(packed(*next(requests)) for _ in range(n))
 
 
-def mixed(hand, requests):
+def mixed(hand, requests, length=LENGTH):
     """Changes one by one, and now and then a look or a run."""
-    for _ in range(LENGTH):
+    for _ in range(length):
         way = hand.rng.random()
         if way < 0.2:
             yield from hand.look()
@@ -129,7 +133,7 @@ def made(rng, h, n):
     hand = Hand(rng, h)
     yield from hand.call("make")
     mood = rng.choice((rising, falling, behind, before, anywhere))(hand)
-    yield from hand.call("run", TOP, requests=take(mood, rng.randint(58, 64)))
+    yield from hand.call("run", TOP, requests=take(mood, rng.randint(52, 64)))
     yield from mixed(hand, mood)
 
 
@@ -146,11 +150,29 @@ def sweeps(start, *moods):
     """A sweep of each level in turn, and a change or two after it."""
     def episode(rng, h, n):
         for level in range(1, h + 1):
-            hand = Hand(rng, h, lambda rng, h: start(rng, h, level))
+            hand = Hand(rng, h, lambda *of: start(*of, level))
             requests = rng.choice(moods)(hand)
             for _ in range(3):
                 yield from hand.call(*next(requests))
     return episode
+
+
+def turns(rng, h, n):
+    """Lists of each profile's numbers go from one profile to the other and back; too crowded for the first, they are refused there."""
+    hand = Hand(rng, h, (any_counts, overfull, underfull, nearly_full)[n % 4])
+    requests = rng.choice((rising, behind, before, anywhere, storm))(hand)
+    for _ in range(LENGTH // 5):
+        yield from mixed(hand, requests, rng.randint(1, 9))
+        hand.profile = hand.other()
+
+
+def computed(rng, h, n):
+    """The sums of profile 2, which are of height 1, then on from there."""
+    hand = Hand(rng, 1, profile=2)
+    sizes, (call, key), _ = model.SECOND[n % len(model.SECOND)]
+    hand.list, hand.forecast = model.list_with(*sizes, step=10), oracle.words(model.as_forecast([]))
+    yield from hand.call(call.__name__, key, profile=2)
+    yield from mixed(hand, rng.choice((rising, behind, storm, anywhere))(hand), 8)
 
 
 GROUPS = dict(
@@ -158,4 +180,5 @@ GROUPS = dict(
     behind=sequence(behind, overfull, any_counts), before=sequence(before, overfull, any_counts),
     marks=sequence(marks, overfull, any_counts), anywhere=sequence(anywhere, any_counts), storm=sequence(storm, underfull, thin),
     full=sequence(full, nearly_full), drain=sequence(drain, nearly_empty), ends=sequence(ends, any_counts), made=made, bulk=bulk,
+    turns=turns, computed=computed,
     spill=sweeps(overfull, rising, falling, behind, before), sink=sweeps(underfull, storm))

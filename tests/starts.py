@@ -1,4 +1,4 @@
-"""Good lists and forecasts to begin with: counts of the segments, rising keys for them, and cells."""
+"""Good lists and forecasts to begin with: counts of the segments, by profile, rising keys for them, and cells."""
 import model
 import oracle
 
@@ -17,47 +17,47 @@ def spread(rng, m, segments):
     return spread(rng, i, segments // 2) + spread(rng, m - i, segments // 2)
 
 
-def any_counts(rng, h):
+def any_counts(rng, profile, h):
     """Few keys, about as many as make a list sparse, as many as there may be, or any number."""
-    most = model.most_keys(h)
-    m = rng.choice((rng.randint(0, 9), 13 * 2 ** h + rng.randint(-3, 3), most - rng.randint(0, 4), rng.randint(0, most)))
+    few, most = model.few_keys(profile, h), model.most_keys(profile, h)
+    m = rng.choice((rng.randint(0, 9), few + rng.randint(-3, 3), most - rng.randint(0, 4), rng.randint(0, most)))
     return spread(rng, m, 2 ** h), None
 
 
-def nearly_full(rng, h):
-    return spread(rng, model.most_keys(h) - rng.randint(0, 3), 2 ** h), None
+def nearly_full(rng, profile, h):
+    return spread(rng, model.most_keys(profile, h) - rng.randint(0, 3), 2 ** h), None
 
 
-def nearly_empty(rng, h):
+def nearly_empty(rng, profile, h):
     counts = [0] * 2 ** h
     for _ in range(rng.randint(0, 25)):
         counts[rng.randrange(2 ** h)] += 1
     return counts, None
 
 
-def thin(rng, h):
+def thin(rng, profile, h):
     """Round the least that a segment should hold."""
     most = rng.randint(8, 24)
     return [rng.randint(rng.choice((0, 6)), most) for _ in range(2 ** h)], None
 
 
-def window_counts(rng, h, level, first, change):
+def window_counts(rng, profile, h, level, first, change):
     """Counts of the windows round a segment of `first` keys, such that one key more or less makes a sweep of this level; or None."""
     counts = [first]
     for l in range(1, h + 1):
-        most = min(counts[-1] + 32 * 2 ** l, model.most_keys(h) - max(0, change))
-        fit = [n for n in range(counts[-1], most + 1) if l > level or model.within_limits(h, l, n + change) == (l == level)]
+        most = min(counts[-1] + 32 * 2 ** l, model.most_keys(profile, h) - max(0, change))
+        fit = [n for n in range(counts[-1], most + 1) if l > level or model.within_limits(profile, h, l, n + change) == (l == level)]
         if not fit:
             return None
         counts.append(rng.choice(fit) if l > level else rng.choice((fit[0], fit[0], fit[-1], rng.choice(fit))))
     return counts
 
 
-def poised(rng, h, first, change, level=None):
+def poised(rng, profile, h, first, change, level=None):
     """A segment of so many keys, somewhere in the list or at its front, and windows round it as above."""
     windows, front = None, rng.random() < 0.25
     while windows is None:
-        windows = window_counts(rng, h, level or rng.randint(1, h), first, change)
+        windows = window_counts(rng, profile, h, level or rng.randint(1, h), first, change)
     counts, at = windows[:1], 0
     for l in range(1, h + 1):
         beside = spread(rng, windows[l] - windows[l - 1], 2 ** (l - 1))
@@ -66,14 +66,17 @@ def poised(rng, h, first, change, level=None):
     return counts, at
 
 
-def overfull(rng, h, level=None):
-    """One key more in a full segment makes a sweep. (At height 1 the list is full then: a segment nearly full.)"""
-    return poised(rng, h, 64, 1, level) if h > 1 else ([60, 0], 0)
+def overfull(rng, profile, h, level=None):
+    """One key more in a segment, of its high share or more, makes a sweep. (Profile 1, height 1: the list is full then; so nearly full.)"""
+    high = model.high(profile, h, 0)
+    if high >= model.most_keys(profile, h):
+        return [60, 0], 0
+    return poised(rng, profile, h, rng.choice((high, high, 64, rng.randint(high, 64))), 1, level)
 
 
-def underfull(rng, h, level=None):
+def underfull(rng, profile, h, level=None):
     """One key less in a segment makes a sweep."""
-    return poised(rng, h, 7, -1, level)
+    return poised(rng, profile, h, model.low(profile, h, 0), -1, level)
 
 
 # ---- Keys and cells ------------------------------------------------------------------------------------------------------------

@@ -1,4 +1,4 @@
-"""Makes the request streams of the program `streams`, and what it must write, by the model of document 01 beside this file.
+"""Makes the request streams of the program `streams`, and what it must write, by the model beside this file.
 
     python3 tests/streams.py            writes crates/streams/data and crates/streams/stdout
     python3 tests/streams.py --check    compares them with what the model says
@@ -30,8 +30,10 @@ STREAMS = {
     "again": inserts(range(200, 270)) + deletes(range(91, 101)),
 }
 
-FRESH = [("empty", 1000), ("short", 1000), ("mark", 1000), ("kind", 1000), ("refused", 1000000), ("moving", 55), ("moving", 54)]
-ONE_LIST = [("moving", 1000), ("again", 1000), ("empty", 0)]
+# profile, stream, allowance: each on a list made empty; then all on one list
+FRESH = [(1, "empty", 1000), (1, "short", 1000), (1, "mark", 1000), (1, "kind", 1000), (1, "refused", 1000000), (1, "moving", 55),
+         (1, "moving", 54), (2, "moving", 1000)]
+ONE_LIST = [(1, "moving", 1000), (1, "again", 1000), (1, "empty", 0), (3, "empty", 0)]
 
 
 BEFORE = [2 ** 32 - 1, 0, 2 ** 32 - 6, 0]
@@ -41,25 +43,25 @@ def four(numbers):
     return " ".join(map(str, numbers))
 
 
-def line(name, slots, forecast, allowance):
-    ran = model.run(slots, forecast, STREAMS[name], allowance, BEFORE)
+def line(profile, name, slots, forecast, allowance):
+    ran = model.run(profile, slots, forecast, STREAMS[name], allowance, BEFORE)
     worked, refused, moves, stop, place, slots, forecast, totals = ran
     added = [(after - before) % 2 ** 32 for after, before in zip(totals, BEFORE)]
     told = "%s worked %d refused %d moves %d stop %d place %d totals %s added %s check %d\n" % (
-        name, worked, refused, moves, stop, place, four(totals), four(added), model.check(slots, forecast))
+        name, worked, refused, moves, stop, place, four(totals), four(added), model.check(profile, slots, forecast))
     return told, slots, forecast
 
 
 def output():
     out = ""
-    for name, allowance in FRESH:
-        _, slots, forecast = model.make([0] * 256)
-        out += line(name, slots, forecast, allowance)[0]
-    _, slots, forecast = model.make([0] * 256)
-    for name, allowance in ONE_LIST:
-        told, slots, forecast = line(name, slots, forecast, allowance)
+    for profile, name, allowance in FRESH:
+        _, slots, forecast = model.make(profile, [0] * 256)
+        out += line(profile, name, slots, forecast, allowance)[0]
+    _, slots, forecast = model.make(1, [0] * 256)
+    for profile, name, allowance in ONE_LIST:
+        told, slots, forecast = line(profile, name, slots, forecast, allowance)
         out += told
-    return out + line("moving", [0] * 255, forecast, 1000)[0]
+    return out + line(1, "moving", [0] * 255, forecast, 1000)[0]
 
 
 def files():

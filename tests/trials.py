@@ -1,4 +1,4 @@
-"""Makes the commands of the program `trials`, and what it must write, by the model of document 01 beside this file.
+"""Makes the commands of the program `trials`, and what it must write, by the model beside this file.
 
     python3 tests/trials.py            writes crates/trials/stdin and crates/trials/stdout
     python3 tests/trials.py --check    compares them with what the model says
@@ -14,7 +14,7 @@ HERE = os.path.dirname(os.path.abspath(__file__))
 FOLDER = os.path.join(HERE, "..", "crates", "trials")
 MOST = 65536 // 25
 
-MAKE, INSERT, DELETE, LOOKUP, SCAN, CHECK, POKE, CELL, USED, SHOW = range(1, 11)
+MAKE, INSERT, DELETE, LOOKUP, SCAN, CHECK, POKE, CELL, USED, SHOW, PROFILE = range(1, 12)
 
 
 def command(ask, x=0, y=0, z=0):
@@ -64,9 +64,9 @@ def pinned():
     return out
 
 
-def mixed(rng, h, n):
+def mixed(rng, profile, h, n):
     """Random requests, biased to a few places, with lookups and scans between."""
-    out = [command(MAKE, 64 << h)]
+    out = [command(PROFILE, profile), command(MAKE, 64 << h)]
     keys = []
     for i in range(n):
         kind = rng.random()
@@ -87,20 +87,51 @@ def mixed(rng, h, n):
     return out + shown() + [command(CHECK)]
 
 
+EVERY = [command(CHECK), command(INSERT, 5), command(DELETE, 5), command(LOOKUP, 5), command(SCAN, 0, 5)]
+
+
+def poked(*sizes):
+    """A list whose segments hold so many keys, 10 apart."""
+    keys = enumerate(model.list_with(*sizes, step=10))
+    return [command(MAKE, 64 * len(sizes))] + [command(POKE, slot, key) for slot, key in keys if key]
+
+
+def second():
+    """Profile 2: as many changes as the first's at three heights, its own sums, its limits, and its lists lent by the first."""
+    out = [command(PROFILE, 2)]
+    for h in (1, 2, 6):
+        out += [command(MAKE, 64 << h)] + up(70) + shown()
+        out += [command(DELETE, 10 + 10 * i) for i in range(0, 60)] + shown()
+    for sizes in ((6, 34), (6, 35)):
+        out += poked(*sizes) + [command(DELETE, 20)] + shown()
+    out += poked(60, 10) + [command(DELETE, 450), command(INSERT, 450)] + shown()
+    out += poked(64, 24) + [command(INSERT, 15), command(PROFILE, 1)] + EVERY + [command(PROFILE, 2), command(DELETE, 700)]
+    out += [command(INSERT, 15)] + shown() + [command(PROFILE, 1)]
+    return out
+
+
+def unknown():
+    """15, before any other number, on a good list and on a damaged one of a length that is refused."""
+    out = [command(MAKE, 128)] + up(5, 10)
+    for profile in model.UNKNOWN:
+        out += [command(PROFILE, profile)] + EVERY
+    out += [command(MAKE, 128), command(MAKE, 100), command(POKE, 3, 5), command(USED, 99)] + EVERY
+    return out + [command(PROFILE, 1)] + EVERY + [command(MAKE, 128)]
+
+
 def refusals():
     """Each number, first to last, and damaged arrays and forecasts."""
     out = []
-    every = [command(CHECK), command(INSERT, 5), command(DELETE, 5), command(LOOKUP, 5), command(SCAN, 0, 5)]
     for length in (0, 64, 192, 8192):
-        out += [command(MAKE, length)] + every
+        out += [command(MAKE, length)] + EVERY
     out += [command(MAKE, 128)] + [command(ask, 0) for ask in (INSERT, DELETE, LOOKUP)]
     out += [command(DELETE, 9)] + up(64, 10) + [command(INSERT, 10), command(INSERT, 11), command(SCAN, 0, 0), command(SCAN, 640, 0)] + shown()
     # a key after a gap; an equal key; a smaller one; a smaller one in the next segment
     for slot, key in ((100, 5000), (30, 300), (30, 5), (64, 200)):
-        out += [command(MAKE, 128)] + up(31, 10) + [command(POKE, slot, key)] + every + shown()
-    out += [command(MAKE, 128)] + up(20, 10) + [command(POKE, 64, 5000), command(POKE, 66, 5001)] + every
+        out += [command(MAKE, 128)] + up(31, 10) + [command(POKE, slot, key)] + EVERY + shown()
+    out += [command(MAKE, 128)] + up(20, 10) + [command(POKE, 64, 5000), command(POKE, 66, 5001)] + EVERY
     # over half as many keys as slots
-    out += [command(MAKE, 128)] + [command(POKE, i, 1 + i) for i in range(65)] + every
+    out += [command(MAKE, 128)] + [command(POKE, i, 1 + i) for i in range(65)] + EVERY
     # forecasts: too many cells, counts, a marker twice, not live, wrong segment, an unused cell that is not zero
     base = [command(MAKE, 128)] + up(5, 10)
     good = [command(MAKE, 128), command(INSERT, 10), command(INSERT, 20)]
@@ -108,15 +139,15 @@ def refusals():
         [command(USED, 8)], [command(USED, 2 ** 64 - 1)], [cell(0, 40, 0, 0)], [cell(0, 40, 0, 8)], [cell(1, 40, 0, 1)], [cell(0, 45, 0, 1)],
         [cell(0, 40, 1, 1)], [cell(0, 0, 1, 1)], [cell(7, 1, 0, 0)], [cell(11, 0, 0, 1)], [command(USED, 1)], [cell(11, 0, 7, 0)],
     ):
-        out += base + damage + every + shown()
+        out += base + damage + EVERY + shown()
     return out + good + shown()
 
 
 def commands():
     rng = random.Random(20)
-    out = sequences() + pinned() + refusals()
+    out = sequences() + pinned() + second() + unknown() + refusals()
     while len(out) + 130 < MOST:
-        out += mixed(rng, rng.randint(1, 6), 100)
+        out += mixed(rng, rng.choice(model.PROFILES), rng.randint(1, 6), 100)
     return out
 
 
@@ -132,7 +163,7 @@ class Player:
 
     def __init__(self):
         self.array = [0] * 8192
-        self.length = 0
+        self.profile, self.length = 1, 0
         self.forecast = (0, [[0, 0, 0] for _ in range(12)])
         self.lines = []
 
@@ -151,27 +182,27 @@ class Player:
         if ask == MAKE:
             if x <= 8192:
                 self.length = x
-                number, slots, forecast = model.make(self.slots())
+                number, slots, forecast = model.make(self.profile, self.slots())
                 self.keep(slots, forecast)
                 self.say("make", number, 0, 0)
         elif ask == INSERT:
-            number, moves, slots, forecast = model.insert(self.slots(), self.forecast, x)
+            number, moves, slots, forecast = model.insert(self.profile, self.slots(), self.forecast, x)
             self.keep(slots, forecast)
             self.say("insert", number, moves, 0)
         elif ask == DELETE:
-            number, moves, sparse, slots, forecast = model.delete(self.slots(), self.forecast, x)
+            number, moves, sparse, slots, forecast = model.delete(self.profile, self.slots(), self.forecast, x)
             self.keep(slots, forecast)
             self.say("delete", number, moves, sparse)
         elif ask == LOOKUP:
-            number, present, segment = model.lookup(self.slots(), x)
+            number, present, segment = model.lookup(self.profile, self.slots(), x)
             self.say("lookup", number, present, segment)
         elif ask == SCAN:
             if y <= 64:
-                number, written, more, output = model.scan(self.slots(), x, [7] * y)
+                number, written, more, output = model.scan(self.profile, self.slots(), x, [7] * y)
                 self.say("scan", number, written, more)
                 self.say("output", digest(list(output) + [7] * (64 - y)), 0, 0)
         elif ask == CHECK:
-            self.say("check", model.check(self.slots(), self.forecast), 0, 0)
+            self.say("check", model.check(self.profile, self.slots(), self.forecast), 0, 0)
         elif ask == POKE:
             if x < 8192:
                 self.array[x] = y
@@ -183,6 +214,8 @@ class Player:
                 self.forecast = (used, cells)
         elif ask == USED:
             self.forecast = (x, self.forecast[1])
+        elif ask == PROFILE:
+            self.profile = x
         else:
             self.show()
 

@@ -25,7 +25,8 @@ def values(right):
 def asked(hand, call):
     """A call that would be done, but for the forecast."""
     number = dict(check=0, insert=hand.a_key(), delete=hand.one_live(), run=TOP)[call]
-    return hand.lend(call, number, requests=packed("insert", hand.a_key()) + packed("delete", hand.one_live()))
+    records = packed("insert", hand.a_key()) + packed("delete", hand.one_live())
+    return hand.lend(call, number, requests=records, profile=hand.profile)
 
 
 def with_word(lent, place, value):

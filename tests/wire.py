@@ -17,8 +17,9 @@ GUARD = bytes(range(0xC0, 0xE0))
 
 @dataclass
 class Lent:
-    """A call and everything it is lent. number: the key, where a scan begins, or the allowance."""
+    """A call, the profile it names and everything it is lent. number: the key, where a scan begins, or the allowance."""
     call: str
+    profile: int = 1
     number: int = 0
     list: Sequence = ()
     forecast: Sequence = ()
@@ -37,8 +38,8 @@ def contents(lent):
 
 
 def question(lent):
-    head = [ASKED.index(lent.call) + 1, lent.number] + [len(slice) for slice in lent.slices()]
-    return struct.pack("<8Q", *head) + b"".join(contents(lent))
+    head = [ASKED.index(lent.call) + 1, lent.profile, lent.number] + [len(slice) for slice in lent.slices()]
+    return struct.pack("<9Q", *head) + b"".join(contents(lent))
 
 
 def answer(returned, after):

@@ -21,7 +21,7 @@ use Rattle.cells.specs.Steps.{retargeted}
 use Rattle.cells.proofs.Ruled.{Placed}
 use Rattle.forecast.specs.declared.Forecast.{Forecast}
 use Rattle.forecast.specs.Tidy.{Marker}
-use Rattle.rules.specs.Shares.{Shares, shares, sparseBelow, cellsOf}
+use Rattle.rules.specs.Shares.{Shares, sparseBelow, cellsOf}
 use Rattle.rules.specs.Placing.{Room, Outcome, home, putIn, cutFrom, chosen, insertLevel, deleteLevel, sweep, settled, insertKey, deleteKey, outcome}
 use Rattle.rules.specs.History.{accepted}
 use Rattle.rules.specs.Calls.{roomOf}
@@ -33,6 +33,7 @@ use Rattle.rules.proofs.Requests.Accepted.{insert-accepted, delete-accepted}
 use Rattle.rules.proofs.Requests.KeysKept.{settled-cells}
 use Rattle.rules.proofs.Requests.StaysGood.{Good, good-next}
 use Rattle.shares.specs.declared.Shape.{Shape}
+use Rattle.shares.specs.Rows.{sharesAt}
 use Rattle.aims.specs.declared.Aim.{Aim}
 use Rattle.records.specs.Asked.{asked}
 use Rattle.aims.specs.Aims.{seatFor, levelFor, levelAt}
@@ -106,7 +107,7 @@ module _ {slots : List ℕ} {F : Forecast} {bounds counts : List ℕ} {k : Shape
   ss = segmentsOf slots
 
   abbrev S : Shares
-  S = shares (k .height)
+  S = sharesAt k
 
   abbrev R : Room
   R = roomOf slots F
@@ -117,7 +118,7 @@ module _ {slots : List ℕ} {F : Forecast} {bounds counts : List ℕ} {k : Shape
   abbrev ms : Segments
   ms = doneIn (r .grows) (r .key) ss
 
-  pub taken : T (accepted (shares (k .height)) (asked (r .grows) (r .key)) (roomOf slots F))
+  pub taken : T (accepted (sharesAt k) (asked (r .grows) (r .key)) (roomOf slots F))
   taken = rw (A .accepts .accepted) tt
 
   -- ITS PLACE
@@ -147,14 +148,14 @@ module _ {slots : List ℕ} {F : Forecast} {bounds counts : List ℕ} {k : Shape
   level-height = level-number (S .height) (r .level) (subst (AtMost (S .height)) (A .accepts .level) (level-most S (r .key) R (r .grows)))
 
   -- ITS OUTCOME
-  outcome-is : (n : ℕ) × (b : Bool) × (outcomeOf slots F k r ≡ settled (shares (k .height)) (r .segment) (cellsFor (shares (k .height)) (r .grows) (r .key) (roomOf slots F))
+  outcome-is : (n : ℕ) × (b : Bool) × (outcomeOf slots F k r ≡ settled (sharesAt k) (r .segment) (cellsFor (sharesAt k) (r .grows) (r .key) (roomOf slots F))
       (doneIn (r .grows) (r .key) (segmentsOf slots)) n b (levelAt (r .level)))
   outcome-is =
       let q = settles S (r .key) R (r .grows) taken in
       (q .0, q .1, q .2 ∙ ap₂ {C = Outcome} (λ (s : ℕ) (o : Option ℕ). settled S s cs ms (q .0) (q .1) o) (sym (A .accepts .segment)) (A .accepts .level))
 
   pub cells-after : outcomeOf slots F k r .room .cells
-      ≡ retargeted (segmentOf (outcomeOf slots F k r .room .segments)) (cellsFor (shares (k .height)) (r .grows) (r .key) (roomOf slots F))
+      ≡ retargeted (segmentOf (outcomeOf slots F k r .room .segments)) (cellsFor (sharesAt k) (r .grows) (r .key) (roomOf slots F))
   cells-after =
       subst (λ (o : Outcome). o .room .cells ≡ retargeted (segmentOf (o .room .segments)) cs) (sym (outcome-is .2))
       (settled-cells S (r .segment) cs ms (outcome-is .0) (outcome-is .1) (levelAt (r .level)))
@@ -166,16 +167,16 @@ module _ {slots : List ℕ} {F : Forecast} {bounds counts : List ℕ} {k : Shape
       ∙ ap (λ (l : ℕ). settled S (r .segment) cs ms (outcome-is .0) (outcome-is .1) (levelAt l) .room .segments) e
 
   pub segments-swept : 1 ≤ r .level → outcomeOf slots F k r .room .segments
-      ≡ sweep (shares (k .height)) (r .level) (r .segment) (cellsFor (shares (k .height)) (r .grows) (r .key) (roomOf slots F)) (doneIn (r .grows) (r .key) (segmentsOf slots))
+      ≡ sweep (sharesAt k) (r .level) (r .segment) (cellsFor (sharesAt k) (r .grows) (r .key) (roomOf slots F)) (doneIn (r .grows) (r .key) (segmentsOf slots))
   unfolding settled
   segments-swept h =
       ap (λ (o : Outcome). o .room .segments) (outcome-is .2)
       ∙ ap (λ (o : Option ℕ). settled S (r .segment) cs ms (outcome-is .0) (outcome-is .1) o .room .segments) (sym (level-some (r .level) h))
 
-  pub cells-stay : r .level ≡ 0 → outcomeOf slots F k r .room .cells ≡ cellsFor (shares (k .height)) (r .grows) (r .key) (roomOf slots F)
+  pub cells-stay : r .level ≡ 0 → outcomeOf slots F k r .room .cells ≡ cellsFor (sharesAt k) (r .grows) (r .key) (roomOf slots F)
   cells-stay e =
       cells-after ∙ ap (λ (ts : Segments). retargeted (segmentOf ts) cs) (segments-stay e)
       ∙ aims-stay S (r .key) R (good-stands (A .stands)) (r .grows) taken
 
-  pub good-after : Good (shares (k .height)) (outcomeOf slots F k r .room)
+  pub good-after : Good (sharesAt k) (outcomeOf slots F k r .room)
   good-after = good-next S (lawful-stands (A .stands)) (asked (r .grows) (r .key)) R (good-stands (A .stands))

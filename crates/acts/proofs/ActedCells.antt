@@ -21,12 +21,13 @@ use Rattle.forecast.specs.declared.Forecast.{Forecast}
 use Rattle.forecast.specs.Cells.{usedCells, forecastOf}
 use Rattle.forecast.specs.Tidy.{Became, Marker, Live, Outside, Elsewhere}
 use Rattle.forecast.proofs.Became.{became-is}
-use Rattle.rules.specs.Shares.{Shares, shares}
+use Rattle.rules.specs.Shares.{Shares}
 use Rattle.rules.specs.Placing.{Room, frontWeight, newWindow, sweep}
 use Rattle.rules.specs.Calls.{roomOf}
 use Rattle.rules.proofs.Sharing.SharingOut.{length-shareOut}
 use Rattle.rules.proofs.Sweeping.SweptWindow.{splice-set}
 use Rattle.shares.specs.declared.Shape.{Shape}
+use Rattle.shares.specs.Rows.{sharesAt}
 use Rattle.seats.specs.Bounds.{Bounded}
 use Rattle.slots.proofs.Tables.{splice-before, splice-after}
 use Rattle.aims.specs.declared.Aim.{Aim}
@@ -72,7 +73,7 @@ module _ {slots : List ℕ} {F : Forecast} {bounds counts : List ℕ} {k : Shape
   ss = segmentsOf slots
 
   abbrev S : Shares
-  S = shares (k .height)
+  S = sharesAt k
 
   abbrev R : Room
   R = roomOf slots F
@@ -98,7 +99,7 @@ module _ {slots : List ℕ} {F : Forecast} {bounds counts : List ℕ} {k : Shape
   new = newWindow S (r .level) (r .segment) cs (doneIn (r .grows) (r .key) ss)
 
   swept-is : 1 ≤ r .level → outcomeOf slots F k r .room .segments ≡ splice (start (r .level) (r .segment)) (2 ^ r .level)
-      (newWindow (shares (k .height)) (r .level) (r .segment) (cellsFor (shares (k .height)) (r .grows) (r .key) (roomOf slots F)) (doneIn (r .grows) (r .key) (segmentsOf slots))) (segmentsOf slots)
+      (newWindow (sharesAt k) (r .level) (r .segment) (cellsFor (sharesAt k) (r .grows) (r .key) (roomOf slots F)) (doneIn (r .grows) (r .key) (segmentsOf slots))) (segmentsOf slots)
   unfolding sweep
   swept-is h =
       segments-swept A h

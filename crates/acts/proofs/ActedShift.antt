@@ -18,7 +18,7 @@ use Rattle.cells.specs.Steps.{noted, dropped}
 use Rattle.forecast.specs.declared.Forecast.{Forecast}
 use Rattle.forecast.specs.Cells.{usedCells}
 use Rattle.forecast.specs.Tidy.{Tidy, Roomy, Became}
-use Rattle.rules.specs.Shares.{Shares, shares}
+use Rattle.rules.specs.Shares.{Shares}
 use Rattle.rules.specs.Placing.{Room, home, insertLevel}
 use Rattle.rules.specs.Readings.{Smallest}
 use Rattle.rules.specs.History.{accepted}
@@ -26,6 +26,7 @@ use Rattle.rules.specs.Calls.{roomOf}
 use Rattle.rules.proofs.Sweeping.Sizes.{insert-always-finds}
 use Rattle.rules.proofs.Requests.Accepted.{Inserts, insert-accepted, Deletes, delete-accepted}
 use Rattle.shares.specs.declared.Shape.{Shape}
+use Rattle.shares.specs.Rows.{sharesAt}
 use Rattle.seats.specs.Bounds.{Indexed}
 use Rattle.aims.specs.declared.Aim.{Aim}
 use Rattle.records.specs.Asked.{asked}
@@ -40,7 +41,7 @@ module _ {slots : List ℕ} {F : Forecast} {bounds counts : List ℕ} {k : Shape
   ss = segmentsOf slots
 
   abbrev S : Shares
-  S = shares (k .height)
+  S = sharesAt k
 
   abbrev R : Room
   R = roomOf slots F
@@ -72,10 +73,10 @@ module _ {slots : List ℕ} {F : Forecast} {bounds counts : List ℕ} {k : Shape
   noted-out g {N} b = subst (λ (t : Bool). Became (cellsFor S t y R) N) (sym g) b
 
   -- SHIFTED
-  inserts : r .grows ≡ true → Inserts (shares (k .height)) (r .key) (roomOf slots F)
+  inserts : r .grows ≡ true → Inserts (sharesAt k) (r .key) (roomOf slots F)
   inserts g = insert-accepted S y R (subst (λ (t : Bool). T (accepted S (asked t y) R)) g (taken A))
 
-  deletes : r .grows ≡ false → Deletes (shares (k .height)) (r .key) (roomOf slots F)
+  deletes : r .grows ≡ false → Deletes (sharesAt k) (r .key) (roomOf slots F)
   deletes g = delete-accepted S y R (subst (λ (t : Bool). T (accepted S (asked t y) R)) g (taken A))
 
   -- the segment of an insert that sweeps nothing has room
@@ -93,8 +94,8 @@ module _ {slots : List ℕ} {F : Forecast} {bounds counts : List ℕ} {k : Shape
       held : r .held ≡ length (getD (segmentsOf slots) (home (r .key) (segmentsOf slots)) [])
       held = A .accepts .held ∙ ap (λ (j : ℕ). length (getD (segmentsOf slots) j [])) (seat-as true g)
 
-      unswept : insertLevel (shares (k .height)) (r .key) (segmentsOf slots) ≡ none
-      unswept = ap (λ (t : Bool). levelFor (shares (k .height)) t (r .key) (segmentsOf slots)) (sym g) ∙ A .accepts .level ∙ ap levelAt e
+      unswept : insertLevel (sharesAt k) (r .key) (segmentsOf slots) ≡ none
+      unswept = ap (λ (t : Bool). levelFor (sharesAt k) t (r .key) (segmentsOf slots)) (sym g) ∙ A .accepts .level ∙ ap levelAt e
 
   -- a key that is taken out is one of its segment's
   pub under-out : r .grows ≡ false → r .at < r .held

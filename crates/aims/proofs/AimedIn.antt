@@ -20,7 +20,7 @@ use Rattle.forecast.specs.declared.Forecast.{Forecast}
 use Rattle.rules.specs.declared.Refusal.the-variants.{KeyZero, KeyPresent, Full}
 use Rattle.rules.specs.declared.Request.{Request}
 use Rattle.rules.specs.declared.Request.the-variants.{Insert}
-use Rattle.rules.specs.Shares.{Shares, shares, capacity}
+use Rattle.rules.specs.Shares.{Shares, capacity}
 use Rattle.rules.specs.Placing.{Room, home, putIn, chosen, insertLevel}
 use Rattle.rules.specs.Readings.{Smallest}
 use Rattle.rules.specs.Calls.{roomOf}
@@ -28,6 +28,7 @@ use Rattle.rules.proofs.Sharing.Climb.{climb-is}
 use Rattle.rules.proofs.Sweeping.Sizes.{insert-always-finds}
 use Rattle.rules.proofs.Requests.OutcomeCases.{outcome-insert-zero, outcome-insert-present, outcome-insert-full, insert-shifted, insert-swept}
 use Rattle.shares.specs.declared.Shape.{Shape}
+use Rattle.shares.specs.Rows.{sharesAt}
 use Rattle.seeking.specs.declared.Spot.{Spot}
 use Rattle.seats.specs.Bounds.{Indexed}
 use Rattle.seeking.specs.Spots.{Spotted}
@@ -44,7 +45,7 @@ module _ {slots : List ℕ} {F : Forecast} {k : Shape} {n : ℕ} (s : Stands slo
   ss = segmentsOf slots
 
   abbrev S : Shares
-  S = shares (k .height)
+  S = sharesAt k
 
   abbrev R : Room
   R = roomOf slots F
@@ -102,10 +103,10 @@ module _ {slots : List ℕ} {F : Forecast} {k : Shape} {n : ℕ} (s : Stands slo
         -- A FULL ONE: the keys of the window that a climb finds
         module _ (full : k .high ≤ p .place .held) {bounds counts : List ℕ} (index : Indexed ss slots bounds counts) {r : Climb}
             (climbed : (ts : Segments) (new : List ℕ) → length ts ≡ 2 ^ k .height → CountsOf ts counts → length new ≡ p .place .held + 1
-            → Climbed (k .height) (p .place .segment) (set ts (p .place .segment) new) r) where
-          known : Climbed (k .height) (home y ss) (putIn y ss) r
+            → Climbed (sharesAt k) (p .place .segment) (set ts (p .place .segment) new) r) where
+          known : Climbed (sharesAt k) (home y ss) (putIn y ss) r
           known =
-              subst (λ (j : ℕ). (new : List ℕ) → length new ≡ p .place .held + 1 → Climbed (k .height) j (set ss j new) r) at-home
+              subst (λ (j : ℕ). (new : List ℕ) → length new ≡ p .place .held + 1 → Climbed (sharesAt k) j (set ss j new) r) at-home
               (λ new e. climbed ss new (segments-stand s) (index .count) e)
               (put y (getD ss (home y ss) []))
               (omega (arith, there, length-put y (getD ss (home y ss) []) (λ j m. not-member y (keys ss) fresh j (in-part ss (home y ss) (omega (arith, at-home, place-in s (found .place))) j m))))

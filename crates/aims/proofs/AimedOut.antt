@@ -19,13 +19,14 @@ use Rattle.forecast.specs.declared.Forecast.{Forecast}
 use Rattle.rules.specs.declared.Refusal.the-variants.{KeyZero, KeyAbsent}
 use Rattle.rules.specs.declared.Request.{Request}
 use Rattle.rules.specs.declared.Request.the-variants.{Delete}
-use Rattle.rules.specs.Shares.{Shares, shares}
+use Rattle.rules.specs.Shares.{Shares}
 use Rattle.rules.specs.Placing.{Room, cutFrom, chosen, deleteLevel}
 use Rattle.rules.specs.Calls.{roomOf}
 use Rattle.rules.proofs.Sharing.Climb.{climb-is}
 use Rattle.rules.proofs.Sweeping.SweptWindow.{length-cut-in}
 use Rattle.rules.proofs.Requests.OutcomeCases.{outcome-delete-zero, outcome-delete-absent, delete-stays, delete-swept}
 use Rattle.shares.specs.declared.Shape.{Shape}
+use Rattle.shares.specs.Rows.{sharesAt}
 use Rattle.seeking.specs.declared.Spot.{Spot}
 use Rattle.seats.specs.Bounds.{Indexed}
 use Rattle.seeking.specs.Spots.{Spotted}
@@ -51,7 +52,7 @@ module _ {slots : List ℕ} {F : Forecast} {k : Shape} {n : ℕ} (s : Stands slo
   ss = segmentsOf slots
 
   abbrev S : Shares
-  S = shares (k .height)
+  S = sharesAt k
 
   abbrev R : Room
   R = roomOf slots F
@@ -123,13 +124,13 @@ module _ {slots : List ℕ} {F : Forecast} {k : Shape} {n : ℕ} (s : Stands slo
       -- WHAT A CLIMB FINDS, where it does not
       module _ (few : p .place .held ≤ k .low) {bounds counts : List ℕ} (index : Indexed ss slots bounds counts) {r : Climb}
           (climbed : (ts : Segments) (new : List ℕ) → length ts ≡ 2 ^ k .height → CountsOf ts counts → length new ≡ p .place .held - 1
-          → Climbed (k .height) (p .place .segment) (set ts (p .place .segment) new) r) where
+          → Climbed (sharesAt k) (p .place .segment) (set ts (p .place .segment) new) r) where
         under : length (cut y (getD ss (segmentOf ss y) [])) < S .low 0
         under = omega (arith, shorter, out-under, s .shape .low)
 
-        known : Climbed (k .height) (segmentOf ss y) (cutFrom y ss) r
+        known : Climbed (sharesAt k) (segmentOf ss y) (cutFrom y ss) r
         known =
-            subst (λ (j : ℕ). (new : List ℕ) → length new ≡ p .place .held - 1 → Climbed (k .height) j (set ss j new) r) at-seat
+            subst (λ (j : ℕ). (new : List ℕ) → length new ≡ p .place .held - 1 → Climbed (sharesAt k) j (set ss j new) r) at-seat
             (λ new e. climbed ss new (segments-stand s) (index .count) e)
             (cut y (getD ss (segmentOf ss y) [])) shorter
 

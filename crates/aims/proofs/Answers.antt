@@ -14,11 +14,12 @@ use Rattle.rules.specs.declared.Verdict.the-variants.{Refused, Accepted}
 use Rattle.rules.specs.declared.Request.{Request}
 use Rattle.rules.specs.declared.Request.the-variants.{Bad}
 use Rattle.rules.specs.Refusals.{refusalNumber, verdictNumber}
-use Rattle.rules.specs.Shares.{Shares, shares}
+use Rattle.rules.specs.Shares.{Shares}
 use Rattle.rules.specs.Placing.{Room, Outcome, refusedBy, outcome}
 use Rattle.rules.specs.Calls.{roomOf}
 use Rattle.rules.proofs.Refusals.Told.{refusal-some}
 use Rattle.shares.specs.declared.Shape.{Shape}
+use Rattle.shares.specs.Rows.{sharesAt}
 use Rattle.seeking.specs.declared.Spot.{Spot}
 use Rattle.seeking.specs.Spots.{Spotted}
 use Rattle.aims.specs.declared.Aim.{Aim}
@@ -63,10 +64,10 @@ keyAim grows y before p level moves = record {
 }
 
 module _ {slots : List ℕ} {F : Forecast} {k : Shape} {n : ℕ} (s : Stands slots F k n) {y : ℕ} {p : Spot} (found : Spotted y (segmentsOf slots) slots p) where
-  pub aimed-accepted : (grows : Bool) (before l m : ℕ) {o : Outcome} → outcome (shares (k .height)) (asked grows y) (roomOf slots F) ≡ o
+  pub aimed-accepted : (grows : Bool) (before l m : ℕ) {o : Outcome} → outcome (sharesAt k) (asked grows y) (roomOf slots F) ≡ o
       → o .answer .number ≡ 0 → m ≡ o .answer .moves → p .place .segment ≡ seatFor grows y (segmentsOf slots)
-      → (grows ≡ true → before ≡ predecessor y (segmentsOf slots)) → levelFor (shares (k .height)) grows y (segmentsOf slots) ≡ levelAt l
-      → Aimed (shares (k .height)) (asked grows y) (roomOf slots F) (keyAim grows y before p l m)
+      → (grows ≡ true → before ≡ predecessor y (segmentsOf slots)) → levelFor (sharesAt k) grows y (segmentsOf slots) ≡ levelAt l
+      → Aimed (sharesAt k) (asked grows y) (roomOf slots F) (keyAim grows y before p l m)
   aimed-accepted grows before l m e number moves segment before-is level = record {
     number = sym (ap (λ (o : Outcome). o .answer .number) e ∙ number);
     moves = moves ∙ sym (ap (λ (o : Outcome). o .answer .moves) e);

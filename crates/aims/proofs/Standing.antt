@@ -1,5 +1,5 @@
 -- What is known of a list and forecast that pass the check: the rules' own statements of it, and the bounds that code needs.
-use mathlib.Core.Path.{_≡_, ap, _∙_, subst}
+use mathlib.Core.Path.{_≡_, ap, ap₂, _∙_, subst}
 use mathlib.Core.List.{List, []}
 use Prim.Native.Nat.{ℕ, _*_, _^_, _≤_, _<_}
 use native.Mathlib.Nat.{pow-le-pow-right}
@@ -13,37 +13,44 @@ use Rattle.forecast.specs.declared.Forecast.{Forecast}
 use Rattle.forecast.specs.Cells.{usedCells}
 use Rattle.forecast.specs.Tidy.{Tidy, Roomy}
 use Rattle.forecast.proofs.Became.{is-became}
-use Rattle.rules.specs.Shares.{Lawful, shares}
+use Rattle.rules.specs.Shares.{Shares, Lawful, shares}
+use Rattle.rules.specs.Profiles.{numberOf}
 use Rattle.rules.specs.Checks.{checkList}
 use Rattle.rules.specs.Calls.{roomOf}
 use Rattle.rules.proofs.Sharing.Table.{lawful}
+use Rattle.rules.proofs.Sharing.Profiles.{profile-named}
 use Rattle.rules.proofs.Requests.StaysGood.{Good}
 use Rattle.rules.proofs.Requests.Checked.{Passed, passed, list-passes, checked, keys-shown, forecast-shown}
 use Rattle.rules.proofs.Requests.Shown.{shows-passed, long-passed}
 use Rattle.shares.specs.declared.Shape.{Shape}
-use Rattle.shares.specs.Rows.{Fetched}
+use Rattle.shares.specs.Rows.{sharesAt, Fetched}
 use Rattle.aims.specs.Aims.{Known, Stands}
 
 module _ {slots : List ℕ} {F : Forecast} {k : Shape} {n : ℕ} (s : Stands slots F k n) where
-  list-stands : checkList slots ≡ 0
-  list-stands = list-passes slots F (s .passes)
+  -- the number of its profile
+  abbrev number : ℕ
+  number = numberOf (k .profile)
 
-  passed-stands : Passed slots
-  passed-stands = passed slots list-stands
+  list-stands : checkList number slots ≡ 0
+  list-stands = list-passes number slots F (s .passes)
+
+  passed-stands : Passed number slots
+  passed-stands = passed number slots list-stands
 
   -- the height is from 1 to 6
   pub height-stands : (1 ≤ k .height) × (k .height ≤ 6)
   height-stands = (omega (arith, passed-stands .from, s .height), omega (arith, passed-stands .to, s .height))
 
-  pub lawful-stands : Lawful (shares (k .height))
-  lawful-stands = lawful (k .height) (height-stands .0) (height-stands .1)
+  pub lawful-stands : Lawful (sharesAt k)
+  lawful-stands = lawful (k .profile) (k .height) (height-stands .0) (height-stands .1)
 
   -- the list with its forecast is good, and the slots show their segments
-  pub good-stands : Good (shares (k .height)) (roomOf slots F)
-  good-stands = subst (λ (h : ℕ). Good (shares h) (roomOf slots F)) (s .height) (checked slots F (s .passes) .2)
+  pub good-stands : Good (sharesAt k) (roomOf slots F)
+  good-stands =
+      subst (λ (S : Shares). Good S (roomOf slots F)) (ap₂ {C = Shares} shares (profile-named (k .profile)) (s .height)) (checked number slots F (s .passes) .2)
 
   pub shows-stands : Shows (segmentsOf slots) slots
-  shows-stands = shows-passed slots list-stands
+  shows-stands = shows-passed number slots list-stands
 
   pub segments-stand : length (segmentsOf slots) ≡ 2 ^ k .height
   segments-stand = good-stands .proper .size
@@ -53,14 +60,14 @@ module _ {slots : List ℕ} {F : Forecast} {k : Shape} {n : ℕ} (s : Stands slo
   long-stands = passed-stands .number ∙ ap (λ (h : ℕ). 64 * 2 ^ h) (s .height)
 
   pub some-stands : 128 ≤ length slots
-  some-stands = long-passed slots list-stands
+  some-stands = long-passed number slots list-stands
 
   pub small-stands : length slots ≤ 4096
   small-stands = omega (arith, long-stands, pow-le-pow-right {n = 2} (omega arith) {i = k .height} {j = 6} (height-stands .1))
 
   -- and n keys
   pub keys-stand : length (keys (segmentsOf slots)) ≡ n
-  keys-stand = ap length (keys-shown slots passed-stands) ∙ s .many
+  keys-stand = ap length (keys-shown number slots passed-stands) ∙ s .many
 
   pub few-stands : n ≤ 4096
   few-stands = omega (arith, s .many, only-length isKey slots, small-stands)
@@ -70,7 +77,7 @@ module _ {slots : List ℕ} {F : Forecast} {k : Shape} {n : ℕ} (s : Stands slo
   cells-stand = omega (arith, good-stands .ruled .few, height-stands)
 
   pub tidy-stands : Roomy F → Tidy F
-  tidy-stands r = subst Tidy (forecast-shown slots F (s .passes) r) (is-became (usedCells F) cells-stand .tidy)
+  tidy-stands r = subst Tidy (forecast-shown number slots F (s .passes) r) (is-became (usedCells F) cells-stand .tidy)
 
 -- WHAT A CLIMB ASKS for, of a segment of the list and the keys that it will have
 module _ {slots bounds counts : List ℕ} {k : Shape} {n : ℕ} (K : Known slots bounds counts k n) where
@@ -78,7 +85,7 @@ module _ {slots bounds counts : List ℕ} {k : Shape} {n : ℕ} (K : Known slots
   few-counted j h = omega (arith, K .index .count j h, K .index .shows .fits (getD (segmentsOf slots) j []) (at-mem (segmentsOf slots) j [] h))
 
   pub climb-asks : {seg held : ℕ} → seg < length (segmentsOf slots) → held ≤ 65
-      → (1 ≤ k .height) × (k .height ≤ 6) × (2 ^ k .height ≤ length counts) × (seg < 2 ^ k .height) × Fetched (shares (k .height)) k × (held ≤ 65)
+      → (1 ≤ k .height) × (k .height ≤ 6) × (2 ^ k .height ≤ length counts) × (seg < 2 ^ k .height) × Fetched (sharesAt k) k × (held ≤ 65)
       × ((j : ℕ) → j < 2 ^ k .height → getD counts j 0 ≤ 64)
   climb-asks h f =
       let size : length (segmentsOf slots) ≡ 2 ^ k .height = segments-stand (K .stands) in

@@ -12,20 +12,21 @@ use Rattle.rules.specs.declared.Refusal.{Refusal}
 use Rattle.rules.specs.declared.Verdict.the-variants.{Refused, Accepted}
 use Rattle.rules.specs.declared.Request.{Request}
 use Rattle.rules.specs.Refusals.{verdictNumber}
-use Rattle.rules.specs.Shares.{Shares, shares}
+use Rattle.rules.specs.Shares.{Shares}
 use Rattle.rules.specs.Placing.{Room, home, insertLevel, deleteLevel, outcome}
+use Rattle.rules.specs.Profiles.{numberOf}
 use Rattle.rules.specs.Checks.{check}
 use Rattle.records.specs.Asked.{asked}
 use Rattle.shares.specs.declared.Shape.{Shape}
-use Rattle.shares.specs.Rows.{Fetched}
+use Rattle.shares.specs.Rows.{sharesAt, Fetched}
 use Rattle.seats.specs.Bounds.{Indexed}
 use Rattle.aims.specs.declared.Aim.{Aim}
 
 -- List and forecast pass the check, with this shape and n keys.
 pub record Stands (slots : List ℕ) (F : Forecast) (k : Shape) (n : ℕ) : Type 0 where
-  pub passes : check slots F ≡ 0
+  pub passes : check (numberOf (k .profile)) slots F ≡ 0
   pub height : heightOf (length slots) ≡ k .height
-  pub shape : Fetched (shares (k .height)) k
+  pub shape : Fetched (sharesAt k) k
   pub many : length (live slots) ≡ n
 
 -- They do with some forecast, and bounds and counts are those of the segments.

@@ -2,7 +2,7 @@
 ghost use mathlib.Core.Path.{_≡_};
 ghost use Rattle.forecast.specs.declared.Forecast.{Forecast};
 ghost use Rattle.rules.specs.declared.Request.{Request};
-ghost use Rattle.rules.specs.Shares.{shares};
+ghost use Rattle.shares.specs.Rows.{sharesAt};
 ghost use Rattle.rules.specs.Calls.{roomOf};
 ghost use Rattle.aims.specs.Aims.{Known, Stands, refusedAim, Aimed};
 use crate::Aim;
@@ -39,7 +39,7 @@ fn aim_in(
     keys: usize,
 ) -> Aim
     requires { ⌜ Known (now list) (now bounds) (now counts) shape keys ⌝ }
-    ensures { λ r. ⌜ ((F : Forecast) → Stands (now (list .entry)) F shape keys → Aimed (shares (shape .height)) (Request.Insert key) (roomOf (now (list .entry)) F) r) ⌝ }
+    ensures { λ r. ⌜ ((F : Forecast) → Stands (now (list .entry)) F shape keys → Aimed (sharesAt shape) (Request.Insert key) (roomOf (now (list .entry)) F) r) ⌝ }
 {
     if key == 0 {
         return refuse(Refusal::KeyZero);
@@ -93,7 +93,7 @@ fn aim_out(
     keys: usize,
 ) -> Aim
     requires { ⌜ Known (now list) (now bounds) (now counts) shape keys ⌝ }
-    ensures { λ r. ⌜ ((F : Forecast) → Stands (now (list .entry)) F shape keys → Aimed (shares (shape .height)) (Request.Delete key) (roomOf (now (list .entry)) F) r) ⌝ }
+    ensures { λ r. ⌜ ((F : Forecast) → Stands (now (list .entry)) F shape keys → Aimed (sharesAt shape) (Request.Delete key) (roomOf (now (list .entry)) F) r) ⌝ }
 {
     if key == 0 {
         return refuse(Refusal::KeyZero);
@@ -145,7 +145,7 @@ pub fn aim(
     keys: usize,
 ) -> Aim
     requires { ⌜ Known (now list) (now bounds) (now counts) shape keys ⌝ }
-    ensures { λ r. ⌜ ((F : Forecast) → Stands (now (list .entry)) F shape keys → Aimed (shares (shape .height)) request (roomOf (now (list .entry)) F) r) ⌝ }
+    ensures { λ r. ⌜ ((F : Forecast) → Stands (now (list .entry)) F shape keys → Aimed (sharesAt shape) request (roomOf (now (list .entry)) F) r) ⌝ }
 {
     match request {
         Request::Insert(key) => aim_in(list, bounds, counts, shape, key, keys),

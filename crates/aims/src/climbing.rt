@@ -5,8 +5,8 @@ ghost use mathlib.Core.List.{List};
 ghost use lib.ListN.{length, set, getD};
 ghost use Rattle.slots.specs.Segments.{Segments};
 ghost use Rattle.slots.specs.Shown.{CountsOf};
-ghost use Rattle.rules.specs.Shares.{shares, within};
-ghost use Rattle.shares.specs.Rows.{Fetched};
+ghost use Rattle.rules.specs.Shares.{within};
+ghost use Rattle.shares.specs.Rows.{sharesAt, Fetched};
 ghost use Rattle.aims.specs.Climbs.{otherHalf, Climbed};
 use crate::Climb;
 use places::counting::keys_in;
@@ -26,8 +26,8 @@ fn sibling(seg: usize, half: usize) -> usize
 
 // Whether a window of `size` segments, which is level `level`, is within limits with so many keys.
 fn fits(shape: Shape, level: usize, size: usize, keys: usize) -> bool
-    requires { ⌜ (1 ≤ shape .height) × (shape .height ≤ 6) × (level ≤ shape .height) × (size ≡ 2 ^ level) × (size ≤ 64) × Fetched (shares (shape .height)) shape ⌝ }
-    ensures { λ r. ⌜ r ≡ within (shares (shape .height)) level keys ⌝ }
+    requires { ⌜ (1 ≤ shape .height) × (shape .height ≤ 6) × (level ≤ shape .height) × (size ≡ 2 ^ level) × (size ≤ 64) × Fetched (sharesAt shape) shape ⌝ }
+    ensures { λ r. ⌜ r ≡ within (sharesAt shape) level keys ⌝ }
 {
     if keys < size * wide(shape.lows[level]) {
         return false;
@@ -37,9 +37,9 @@ fn fits(shape: Shape, level: usize, size: usize, keys: usize) -> bool
 
 // From level 1 upward, the window round segment `seg`, which will have `held` keys with the request done; the others have their counts.
 pub fn climb(counts: &[usize], shape: Shape, seg: usize, held: usize) -> Climb
-    requires { ⌜ (1 ≤ shape .height) × (shape .height ≤ 6) × (2 ^ shape .height ≤ length (now counts)) × (seg < 2 ^ shape .height) × Fetched (shares (shape .height)) shape × (held ≤ 65) × ((k : ℕ) → k < 2 ^ shape .height → getD (now counts) k 0 ≤ 64) ⌝ }
+    requires { ⌜ (1 ≤ shape .height) × (shape .height ≤ 6) × (2 ^ shape .height ≤ length (now counts)) × (seg < 2 ^ shape .height) × Fetched (sharesAt shape) shape × (held ≤ 65) × ((k : ℕ) → k < 2 ^ shape .height → getD (now counts) k 0 ≤ 64) ⌝ }
     ensures range { λ r. ⌜ (r .level ≤ shape .height) × (r .keys ≤ 4097) ⌝ }
-    ensures window { λ r. ⌜ ((ss : Segments) (new : List ℕ) → length ss ≡ 2 ^ shape .height → CountsOf ss (now (counts .entry)) → length new ≡ held → Climbed (shape .height) seg (set ss seg new) r) ⌝ }
+    ensures window { λ r. ⌜ ((ss : Segments) (new : List ℕ) → length ss ≡ 2 ^ shape .height → CountsOf ss (now (counts .entry)) → length new ≡ held → Climbed (sharesAt shape) seg (set ss seg new) r) ⌝ }
 {
     let h = shape.height;
     let mut keys = held;

@@ -3,6 +3,7 @@ use mathlib.Core.Path.{_≡_, refl, sym, ap, ap₂, subst, _∙_}
 use mathlib.Core.List.{List, _∷_}
 use Prim.Native.Nat.{ℕ}
 use Rattle.slots.specs.Segments.{live}
+use Rattle.rules.specs.Profiles.{numberOf}
 use Rattle.rules.specs.Shares.{shares}
 use Rattle.rules.specs.Placing.{Answer}
 use Rattle.rules.specs.Looking.{Found}
@@ -13,12 +14,12 @@ use Rattle.rules.proofs.Demand2.Ruled.{sequence-ruled}
 use Rattle.answers.specs.Chains.{Call, inserted, deleted, lookedUp, scanned, Chain, none, next, Chained}
 
 -- what a call tells, reports and leaves
-record Same (H : Held) (a : set.Ask) (t : set.Told) (m : ℕ) (H′ : Held) : Type 0 where
-  told : t ≡ told a H
-  moves : m ≡ moves a H
-  left : H′ ≡ after a H
+record Same (profile : ℕ) (H : Held) (a : set.Ask) (t : set.Told) (m : ℕ) (H′ : Held) : Type 0 where
+  told : t ≡ told profile a H
+  moves : m ≡ moves profile a H
+  left : H′ ≡ after profile a H
 
-same-call : {H H′ : Held} {a : set.Ask} {t : set.Told} {m : ℕ} → Call H a t m H′ → Same H a t m H′
+same-call : {profile : ℕ} {H H′ : Held} {a : set.Ask} {t : set.Told} {m : ℕ} → Call profile H a t m H′ → Same profile H a t m H′
 same-call (inserted y r left p) = record {
   told = ap (λ (z : Answer). set.Inserted (z .number)) (p .answer);
   moves = ap (λ (z : Answer). z .moves) (p .answer);
@@ -33,37 +34,37 @@ same-call (lookedUp y r p) = record { told = ap (λ (f : Found). set.Found (f .n
 same-call (scanned a out r left p) = record { told = λ i. set.Scanned (p .number i) (p .written i) (p .more i) (p .output i); moves = refl; left = refl }
 
 -- and a chain
-record SameAll (H : Held) (asks : List set.Ask) (ts : List set.Told) (ms : List ℕ) (H′ : Held) : Type 0 where
-  told : ts ≡ allTold asks H
-  moves : ms ≡ allMoves asks H
-  left : H′ ≡ afterAll asks H
+record SameAll (profile : ℕ) (H : Held) (asks : List set.Ask) (ts : List set.Told) (ms : List ℕ) (H′ : Held) : Type 0 where
+  told : ts ≡ allTold profile asks H
+  moves : ms ≡ allMoves profile asks H
+  left : H′ ≡ afterAll profile asks H
 
-same-next : {H H′ H″ : Held} {a : set.Ask} {t : set.Told} {m : ℕ} {asks : List set.Ask} {ts : List set.Told} {ms : List ℕ}
-    → Same H a t m H′ → SameAll H′ asks ts ms H″ → SameAll H (a ∷ asks) (t ∷ ts) (m ∷ ms) H″
-same-next {asks = asks} s r = record {
-  told = ap₂ {C = List set.Told} _∷_ (s .told) (r .told ∙ ap {B = List set.Told} (λ G. allTold asks G) (s .left));
-  moves = ap₂ {C = List ℕ} _∷_ (s .moves) (r .moves ∙ ap {B = List ℕ} (λ G. allMoves asks G) (s .left));
-  left = r .left ∙ ap {B = Held} (λ G. afterAll asks G) (s .left);
+same-next : {profile : ℕ} {H H′ H″ : Held} {a : set.Ask} {t : set.Told} {m : ℕ} {asks : List set.Ask} {ts : List set.Told} {ms : List ℕ}
+    → Same profile H a t m H′ → SameAll profile H′ asks ts ms H″ → SameAll profile H (a ∷ asks) (t ∷ ts) (m ∷ ms) H″
+same-next {profile = profile} {asks = asks} s r = record {
+  told = ap₂ {C = List set.Told} _∷_ (s .told) (r .told ∙ ap {B = List set.Told} (λ G. allTold profile asks G) (s .left));
+  moves = ap₂ {C = List ℕ} _∷_ (s .moves) (r .moves ∙ ap {B = List ℕ} (λ G. allMoves profile asks G) (s .left));
+  left = r .left ∙ ap {B = Held} (λ G. afterAll profile asks G) (s .left);
 }
 
-same-chain : {H H′ : Held} {asks : List set.Ask} {ts : List set.Told} {ms : List ℕ} → Chain H asks ts ms H′ → SameAll H asks ts ms H′
+same-chain : {profile : ℕ} {H H′ : Held} {asks : List set.Ask} {ts : List set.Told} {ms : List ℕ} → Chain profile H asks ts ms H′ → SameAll profile H asks ts ms H′
 same-chain none = record { told = refl; moves = refl; left = refl }
 same-chain (next c cs) = same-next (same-call c) (same-chain cs)
 
 -- after make
 pub chained : Chained
-chained h from to slots e r left m asks ts ms H c =
-    let d = sequence-answered h from to slots e asks in
-    let q = sequence-ruled h from to slots e asks in
+chained p h from to slots e r left m asks ts ms H c =
+    let d = sequence-answered p h from to slots e asks in
+    let q = sequence-ruled p h from to slots e asks in
     record {
       told = s .told ∙ d .0;
       keys = ap (λ (G : Held). live (G .slots)) (s .left) ∙ d .1;
       moves = s .moves ∙ q .1;
-      is-room = subst (IsRoom (shares h) (ruledAll (shares h) asks (emptyRoom h))) (sym (s .left)) (q .0);
+      is-room = subst (IsRoom (numberOf p) (shares p h) (ruledAll (shares p h) asks (emptyRoom h))) (sym (s .left)) (q .0);
     }
   where
-    begins : record { slots = left; forecast = r .forecast } ≡ made slots
+    begins : record { slots = left; forecast = r .forecast } ≡ made (numberOf p) slots
     begins = λ i. record { slots = m .slots-left i; forecast = m .forecast i }
 
-    s : SameAll (made slots) asks ts ms H
-    s = same-chain (subst (λ G. Chain G asks ts ms H) begins c)
+    s : SameAll (numberOf p) (made (numberOf p) slots) asks ts ms H
+    s = same-chain (subst (λ G. Chain (numberOf p) G asks ts ms H) begins c)

@@ -3,3 +3,4 @@ pub mod Papers
 pub mod OneOutcome
 pub mod Chains
 pub mod Sums
+pub mod LentCases

@@ -1,4 +1,4 @@
--- What make, lookup and scan of the rules come to, by the number of the check.
+-- What make of the rules comes to, by the profile and the length; a lookup of a list that passes; a scan that the check refuses.
 use mathlib.Core.Path.{_≡_, sym, ap, _∙_}
 use mathlib.Core.Bool.{true, false}
 use mathlib.Core.Logic.{_≢_}
@@ -7,38 +7,36 @@ use Prim.Native.Nat.{ℕ}
 use native.Mathlib.Omega.{arith}
 use borrow.Author.Tests.{eq-eqb, ne-eqb}
 use lib.ListN.{length, replicate}
-use Rattle.slots.specs.Segments.{Segments, keys, heightOf, segmentsOf}
+use Rattle.slots.specs.Segments.{Segments, keys, heightOf}
 use Rattle.slots.specs.Keys.{member, segmentOf}
 use Rattle.forecast.specs.Cells.{forecastOf}
 use Rattle.rules.specs.declared.Refusal.{Refusal}
 use Rattle.rules.specs.Refusals.{refusalNumber}
+use Rattle.rules.specs.Profiles.{isProfile}
 use Rattle.rules.specs.Checks.{checkList}
-use Rattle.rules.specs.Looking.{notFound, lookedUp, Scanned, scanned}
-use Rattle.rules.specs.Calls.{make, lookup, scan}
+use Rattle.rules.specs.Looking.{notFound, lookedUp, Scanned}
+use Rattle.rules.specs.Calls.{make}
 use Rattle.rules.proofs.Refusals.Told.{refusal-some}
+use Rattle.rules.proofs.Refusals.CheckCases.{scan-refused}
 use Rattle.answers.specs.declared.ScanAnswer.{ScanAnswer}
 use Rattle.answers.specs.Admits.{ScanAdmits}
 
 -- MAKE
-module _ (slots : List ℕ) where
-  pub make-refused : heightOf (length slots) ≡ 0 → make slots ≡ record { slots = slots; forecast = forecastOf []; number = 1 }
+module _ (profile : ℕ) (slots : List ℕ) where
+  pub make-unknown : isProfile profile ≡ false → make profile slots ≡ record { slots = slots; forecast = forecastOf []; number = 15 }
   unfolding make
-  make-refused e = rw (eq-eqb (heightOf (length slots)) 0 e)
+  make-unknown k = rw k
 
-  pub make-done : heightOf (length slots) ≢ 0 → make slots ≡ record { slots = replicate (length slots) 0; forecast = forecastOf []; number = 0 }
+  pub make-refused : isProfile profile ≡ true → heightOf (length slots) ≡ 0 → make profile slots ≡ record { slots = slots; forecast = forecastOf []; number = 1 }
   unfolding make
-  make-done n = rw (ne-eqb (heightOf (length slots)) 0 n)
+  make-refused k e = rw (k, eq-eqb (heightOf (length slots)) 0 e)
 
--- LOOKUP
-module _ (slots : List ℕ) (y : ℕ) where
-  pub lookup-refused : checkList slots ≢ 0 → lookup slots y ≡ notFound (checkList slots)
-  unfolding lookup
-  lookup-refused n = rw (ne-eqb (checkList slots) 0 n)
+  pub make-done : isProfile profile ≡ true → heightOf (length slots) ≢ 0
+      → make profile slots ≡ record { slots = replicate (length slots) 0; forecast = forecastOf []; number = 0 }
+  unfolding make
+  make-done k n = rw (k, ne-eqb (heightOf (length slots)) 0 n)
 
-  pub lookup-passed : checkList slots ≡ 0 → lookup slots y ≡ lookedUp y (segmentsOf slots)
-  unfolding lookup
-  lookup-passed e = rw (eq-eqb (checkList slots) 0 e)
-
+-- LOOKUP, of a list that passes
 module _ (y : ℕ) (ss : Segments) where
   pub looked-zero : y ≡ 0 → lookedUp y ss ≡ notFound 5
   unfolding lookedUp
@@ -53,19 +51,10 @@ module _ (y : ℕ) (ss : Segments) where
   looked-absent n e = rw (ne-eqb y 0 n, e)
 
 -- SCAN
-module _ (slots : List ℕ) (a : ℕ) (out : List ℕ) where
-  pub scan-refused : checkList slots ≢ 0 → scan slots a out ≡ record { number = checkList slots; written = 0; more = false; output = out }
-  unfolding scan
-  scan-refused n = rw (ne-eqb (checkList slots) 0 n)
-
-  pub scan-passed : checkList slots ≡ 0 → scan slots a out ≡ scanned a (segmentsOf slots) out
-  unfolding scan
-  scan-passed e = rw (eq-eqb (checkList slots) 0 e)
-
 -- where the check refuses, a scan tells the number, and the output is as it was
-pub refused-admits : (slots : List ℕ) (a : ℕ) (out : List ℕ) (x : Refusal) → checkList slots ≡ refusalNumber x → ScanAdmits slots a out (ScanAnswer.Refused x) out
-refused-admits slots a out x e =
-    let p = scan-refused slots a out (omega (arith, refusal-some x)) in
+pub refused-admits : (profile : ℕ) (slots : List ℕ) (a : ℕ) (out : List ℕ) (x : Refusal) → checkList profile slots ≡ refusalNumber x → ScanAdmits profile slots a out (ScanAnswer.Refused x) out
+refused-admits profile slots a out x e =
+    let p = scan-refused profile slots a out (omega (arith, refusal-some x)) in
     record {
       number = sym e ∙ sym (ap (λ (s : Scanned). s .number) p);
       written = sym (ap (λ (s : Scanned). s .written) p);

@@ -1,4 +1,4 @@
--- Sums 10 and 11 of document 01, as consequences of what the calls promise.
+-- Sums 10 and 11 of document 01, in either profile, as consequences of what the calls promise.
 use mathlib.Core.Path.{_≡_, refl, sym, ap, _∙_, subst}
 use mathlib.Core.Bool.{Bool, true, false}
 use mathlib.Core.Logic.{_⊎_, inl, inr, _≢_, _↔_}
@@ -14,6 +14,7 @@ use Rattle.forecast.specs.Cells.{forecastOf}
 use Rattle.rules.specs.declared.Refusal.the-variants.{WrongLength}
 use Rattle.rules.specs.declared.Request.{Request}
 use Rattle.rules.specs.declared.Request.the-variants.{Insert, Delete}
+use Rattle.rules.specs.Profiles.{isProfile}
 use Rattle.rules.specs.Checks.{checkList, check}
 use Rattle.rules.specs.Looking.{notFound, Scanned, scanned}
 use Rattle.rules.specs.Calls.{Made, Called, request, unchanged, scan}
@@ -32,7 +33,8 @@ use Rattle.answers.specs.declared.DeleteReply.{DeleteReply}
 use Rattle.answers.specs.Answers.{scanPaper}
 use Rattle.answers.specs.Admits.{MakeAdmits, CheckAdmits, LookupAdmits, ScanAdmits, InsertAdmits, DeleteAdmits}
 use Rattle.rules.proofs.Refusals.CheckCases.{wrong-length, list-first}
-use Rattle.answers.proofs.Replies.{make-refused, lookup-refused, scan-passed, refused-admits}
+use Rattle.rules.proofs.Refusals.CheckCases.{lookup-refused, scan-passed}
+use Rattle.answers.proofs.Replies.{make-refused, refused-admits}
 use Rattle.answers.proofs.Papers.{make-told, check-told, lookup-told, scan-told, insert-told, delete-told}
 use Rattle.answers.proofs.OneOutcome.{scan-one}
 
@@ -40,43 +42,43 @@ use Rattle.answers.proofs.OneOutcome.{scan-one}
 abbrev pub wrongLengths : List ℕ
 wrongLengths = 0 ∷ 64 ∷ 192 ∷ 8192 ∷ []
 
-module _ (slots : List ℕ) (m : Mem (length slots) wrongLengths) where
+module _ (profile : ℕ) (known : isProfile profile ≡ true) (slots : List ℕ) (m : Mem (length slots) wrongLengths) where
   no-height : heightOf (length slots) ≡ 0
   unfolding heightOf
   no-height = eqb→eq _ _ (all-at (λ n. eqb (heightOf n) 0) wrongLengths tt (length slots) m)
 
-  one : checkList slots ≡ 1
-  one = wrong-length slots no-height
+  one : checkList profile slots ≡ 1
+  one = wrong-length profile slots known no-height
 
-  refused : checkList slots ≢ 0
+  refused : checkList profile slots ≢ 0
   refused = omega (arith, one)
 
-  check-one : (F : Forecast) → check slots F ≡ 1
-  check-one F = list-first slots F refused ∙ one
+  check-one : (F : Forecast) → check profile slots F ≡ 1
+  check-one F = list-first profile slots F refused ∙ one
 
-  request-one : (q : Request) (F : Forecast) → request q slots F ≡ unchanged slots F 1
-  request-one q F = request-unchecked q slots F (omega (arith, check-one F)) ∙ ap (unchanged slots F) (check-one F)
+  request-one : (q : Request) (F : Forecast) → request profile q slots F ≡ unchanged slots F 1
+  request-one q F = request-unchecked profile q slots F (omega (arith, check-one F)) ∙ ap (unchanged slots F) (check-one F)
 
-  pub make-wrong : (r : MakeReply) (left : List ℕ) → MakeAdmits slots r left → (r .answer ≡ MakeAnswer.Refused WrongLength) × (r .forecast ≡ forecastOf []) × (left ≡ slots)
+  pub make-wrong : (r : MakeReply) (left : List ℕ) → MakeAdmits profile slots r left → (r .answer ≡ MakeAnswer.Refused WrongLength) × (r .forecast ≡ forecastOf []) × (left ≡ slots)
   make-wrong r left a =
-      let e = make-refused slots no-height in
+      let e = make-refused profile slots known no-height in
       (make-told (r .answer) (MakeAnswer.Refused WrongLength) (a .answer ∙ ap (λ (d : Made). d .number) e), a .forecast ∙ ap (λ (d : Made). d .forecast) e, a .slots-left ∙ ap (λ (d : Made). d .slots) e)
 
-  pub check-wrong : (F : Forecast) (r : CheckAnswer) → CheckAdmits slots F r → r ≡ CheckAnswer.Refused WrongLength
+  pub check-wrong : (F : Forecast) (r : CheckAnswer) → CheckAdmits profile slots F r → r ≡ CheckAnswer.Refused WrongLength
   check-wrong F r a = check-told r (CheckAnswer.Refused WrongLength) (a .answer ∙ check-one F)
 
-  pub lookup-wrong : (y : ℕ) (r : LookupAnswer) → LookupAdmits slots y r → r ≡ LookupAnswer.Refused WrongLength
-  lookup-wrong y r a = lookup-told r (LookupAnswer.Refused WrongLength) (a .answer ∙ lookup-refused slots y refused ∙ ap notFound one)
+  pub lookup-wrong : (y : ℕ) (r : LookupAnswer) → LookupAdmits profile slots y r → r ≡ LookupAnswer.Refused WrongLength
+  lookup-wrong y r a = lookup-told r (LookupAnswer.Refused WrongLength) (a .answer ∙ lookup-refused profile slots y refused ∙ ap notFound one)
 
-  pub scan-wrong : (a : ℕ) (out : List ℕ) (r : ScanAnswer) (left : List ℕ) → ScanAdmits slots a out r left → (r ≡ ScanAnswer.Refused WrongLength) × (left ≡ out)
-  scan-wrong a out r left p = scan-one slots a out r (ScanAnswer.Refused WrongLength) left out p (refused-admits slots a out WrongLength one)
+  pub scan-wrong : (a : ℕ) (out : List ℕ) (r : ScanAnswer) (left : List ℕ) → ScanAdmits profile slots a out r left → (r ≡ ScanAnswer.Refused WrongLength) × (left ≡ out)
+  scan-wrong a out r left p = scan-one profile slots a out r (ScanAnswer.Refused WrongLength) left out p (refused-admits profile slots a out WrongLength one)
 
-  pub insert-wrong : (F : Forecast) (y : ℕ) (r : InsertReply) (left : List ℕ) → InsertAdmits slots F y r left → (r .answer ≡ InsertAnswer.Refused WrongLength) × (r .forecast ≡ F) × (left ≡ slots)
+  pub insert-wrong : (F : Forecast) (y : ℕ) (r : InsertReply) (left : List ℕ) → InsertAdmits profile slots F y r left → (r .answer ≡ InsertAnswer.Refused WrongLength) × (r .forecast ≡ F) × (left ≡ slots)
   insert-wrong F y r left a =
       let e = request-one (Insert y) F in
       (insert-told (r .answer) (InsertAnswer.Refused WrongLength) (a .answer ∙ ap (λ (d : Called). d .answer) e), a .forecast ∙ ap (λ (d : Called). d .forecast) e, a .slots-left ∙ ap (λ (d : Called). d .slots) e)
 
-  pub delete-wrong : (F : Forecast) (y : ℕ) (r : DeleteReply) (left : List ℕ) → DeleteAdmits slots F y r left → (r .answer ≡ DeleteAnswer.Refused WrongLength) × (r .forecast ≡ F) × (left ≡ slots)
+  pub delete-wrong : (F : Forecast) (y : ℕ) (r : DeleteReply) (left : List ℕ) → DeleteAdmits profile slots F y r left → (r .answer ≡ DeleteAnswer.Refused WrongLength) × (r .forecast ≡ F) × (left ≡ slots)
   delete-wrong F y r left a =
       let e = request-one (Delete y) F in
       (delete-told (r .answer) (DeleteAnswer.Refused WrongLength) (a .answer ∙ ap (λ (d : Called). d .answer) e), a .forecast ∙ ap (λ (d : Called). d .forecast) e, a .slots-left ∙ ap (λ (d : Called). d .slots) e)
@@ -86,15 +88,15 @@ abbrev Exceeds : List ℕ → ℕ → Type 0
 Exceeds ks a = (k : ℕ) × Mem k ks × (a < k)
 
 -- SUM 11: a scan into an empty output writes 0 keys, and says that more remain exactly if a live key above a exists
-pub scan-empty : (slots : List ℕ) (a : ℕ) (r : ScanAnswer) (left : List ℕ) → checkList slots ≡ 0 → ScanAdmits slots a [] r left
+pub scan-empty : (profile : ℕ) (slots : List ℕ) (a : ℕ) (r : ScanAnswer) (left : List ℕ) → checkList profile slots ≡ 0 → ScanAdmits profile slots a [] r left
     → ((r ≡ ScanAnswer.Ended 0) ⊎ (r ≡ ScanAnswer.More 0)) × ((r ≡ ScanAnswer.More 0) ↔ ((k : ℕ) × Mem k (live slots) × (a < k)))
-scan-empty slots a r left e p = go (scanned a (segmentsOf slots) [] .more) refl
+scan-empty profile slots a r left e p = go (scanned a (segmentsOf slots) [] .more) refl
   where
     told : T (scanned a (segmentsOf slots) [] .more) ↔ Exceeds (live slots) a
-    told = subst (λ (ks : List ℕ). T (scanned a (segmentsOf slots) [] .more) ↔ Exceeds ks a) (keys-shown slots (passed slots e)) (scan-none a (segmentsOf slots) .1)
+    told = subst (λ (ks : List ℕ). T (scanned a (segmentsOf slots) [] .more) ↔ Exceeds ks a) (keys-shown profile slots (passed profile slots e)) (scan-none a (segmentsOf slots) .1)
 
-    is : scan slots a [] ≡ scanned a (segmentsOf slots) []
-    is = scan-passed slots a [] e
+    is : scan profile slots a [] ≡ scanned a (segmentsOf slots) []
+    is = scan-passed profile slots a [] e
 
     number : scanPaper r .number ≡ 0
     number = p .number ∙ ap (λ (s : Scanned). s .number) is ∙ scanned-number a (segmentsOf slots) []

@@ -13,30 +13,30 @@ use Rattle.answers.specs.declared.InsertReply.{InsertReply}
 use Rattle.answers.specs.declared.DeleteReply.{DeleteReply}
 use Rattle.answers.specs.Answers.{makeNumber, checkNumber, lookupPaper, scanPaper, insertPaper, deletePaper}
 
--- make: the slots lent, the reply, and the slots left
-pub record MakeAdmits (slots : List ℕ) (r : MakeReply) (left : List ℕ) : Type 0 where
-  pub answer : makeNumber (r .answer) ≡ rules.make slots .number
-  pub forecast : r .forecast ≡ rules.make slots .forecast
-  pub slots-left : left ≡ rules.make slots .slots
+-- make: the profile's number, the slots lent, the reply, and the slots left
+pub record MakeAdmits (profile : ℕ) (slots : List ℕ) (r : MakeReply) (left : List ℕ) : Type 0 where
+  pub answer : makeNumber (r .answer) ≡ rules.make profile slots .number
+  pub forecast : r .forecast ≡ rules.make profile slots .forecast
+  pub slots-left : left ≡ rules.make profile slots .slots
 
-pub record CheckAdmits (slots : List ℕ) (F : Forecast) (r : CheckAnswer) : Type 0 where
-  pub answer : checkNumber r ≡ check slots F
+pub record CheckAdmits (profile : ℕ) (slots : List ℕ) (F : Forecast) (r : CheckAnswer) : Type 0 where
+  pub answer : checkNumber r ≡ check profile slots F
 
-pub record LookupAdmits (slots : List ℕ) (y : ℕ) (r : LookupAnswer) : Type 0 where
-  pub answer : lookupPaper r ≡ rules.lookup slots y
+pub record LookupAdmits (profile : ℕ) (slots : List ℕ) (y : ℕ) (r : LookupAnswer) : Type 0 where
+  pub answer : lookupPaper r ≡ rules.lookup profile slots y
 
-pub record ScanAdmits (slots : List ℕ) (a : ℕ) (out : List ℕ) (r : ScanAnswer) (left : List ℕ) : Type 0 where
-  pub number : scanPaper r .number ≡ rules.scan slots a out .number
-  pub written : scanPaper r .written ≡ rules.scan slots a out .written
-  pub more : scanPaper r .more ≡ rules.scan slots a out .more
-  pub output : left ≡ rules.scan slots a out .output
+pub record ScanAdmits (profile : ℕ) (slots : List ℕ) (a : ℕ) (out : List ℕ) (r : ScanAnswer) (left : List ℕ) : Type 0 where
+  pub number : scanPaper r .number ≡ rules.scan profile slots a out .number
+  pub written : scanPaper r .written ≡ rules.scan profile slots a out .written
+  pub more : scanPaper r .more ≡ rules.scan profile slots a out .more
+  pub output : left ≡ rules.scan profile slots a out .output
 
-pub record InsertAdmits (slots : List ℕ) (F : Forecast) (y : ℕ) (r : InsertReply) (left : List ℕ) : Type 0 where
-  pub answer : insertPaper (r .answer) ≡ rules.insert slots F y .answer
-  pub forecast : r .forecast ≡ rules.insert slots F y .forecast
-  pub slots-left : left ≡ rules.insert slots F y .slots
+pub record InsertAdmits (profile : ℕ) (slots : List ℕ) (F : Forecast) (y : ℕ) (r : InsertReply) (left : List ℕ) : Type 0 where
+  pub answer : insertPaper (r .answer) ≡ rules.insert profile slots F y .answer
+  pub forecast : r .forecast ≡ rules.insert profile slots F y .forecast
+  pub slots-left : left ≡ rules.insert profile slots F y .slots
 
-pub record DeleteAdmits (slots : List ℕ) (F : Forecast) (y : ℕ) (r : DeleteReply) (left : List ℕ) : Type 0 where
-  pub answer : deletePaper (r .answer) ≡ rules.delete slots F y .answer
-  pub forecast : r .forecast ≡ rules.delete slots F y .forecast
-  pub slots-left : left ≡ rules.delete slots F y .slots
+pub record DeleteAdmits (profile : ℕ) (slots : List ℕ) (F : Forecast) (y : ℕ) (r : DeleteReply) (left : List ℕ) : Type 0 where
+  pub answer : deletePaper (r .answer) ≡ rules.delete profile slots F y .answer
+  pub forecast : r .forecast ≡ rules.delete profile slots F y .forecast
+  pub slots-left : left ≡ rules.delete profile slots F y .slots

@@ -19,6 +19,7 @@ use Rattle.rules.specs.declared.Verdict.the-variants.{Refused, Accepted}
 use Rattle.rules.specs.declared.Request.the-variants.{Insert, Delete}
 use Rattle.rules.specs.declared.Tally.{Tally}
 use Rattle.rules.specs.Refusals.{verdictNumber}
+use Rattle.rules.specs.Profiles.{profileOf}
 use Rattle.rules.specs.Shares.{Shares, capacity, sparseBelow}
 use Rattle.rules.specs.Placing.{Room, Answer, Outcome, insertKey, deleteKey, outcome}
 use Rattle.rules.specs.Checks.{sharesOf, check}
@@ -81,12 +82,12 @@ not-accepted Accepted n = absurd (n refl)
 abbrev replyOf : Worked → Bool → Reply
 replyOf r s = record { forecast = r .forecast; verdict = r .last; moves = r .tally .moves; sparse = s }
 
-module _ (b : Bool) (y : ℕ) (slots : List ℕ) (F : Forecast) (bytes : List ℕ) (allowance : ℕ) (r : Worked) (rest : List ℕ) (s : Bool)
-    (t : TellsSparse b (r .last) (r .keys) (length slots) s) where
+module _ (profile : ℕ) (b : Bool) (y : ℕ) (slots : List ℕ) (F : Forecast) (bytes : List ℕ) (allowance : ℕ) (r : Worked) (rest : List ℕ) (s : Bool)
+    (t : TellsSparse profile b (r .last) (r .keys) (length slots) s) where
   -- WHAT THE CHECK REFUSES
-  requested-refused : check slots F ≢ 0 → Refuses slots F r rest → Requested (asked b y) slots F (replyOf r s) rest
+  requested-refused : check profile slots F ≢ 0 → Refuses profile slots F r rest → Requested profile (asked b y) slots F (replyOf r s) rest
   requested-refused n w =
-      let u : request (asked b y) slots F ≡ unchanged slots F (check slots F) = request-unchecked (asked b y) slots F n in
+      let u : request profile (asked b y) slots F ≡ unchanged slots F (check profile slots F) = request-unchecked profile (asked b y) slots F n in
       let p : s ≡ false = t .refused (not-accepted (r .last) (λ z. n (sym (w .last) ∙ z))) in
       record {
         answer = _∙_ {A = Answer} (λ i. record { number = w .last i; moves = w .tally i .moves; sparse = p i }) (sym (ap (λ (d : Called). d .answer) u));
@@ -96,27 +97,27 @@ module _ (b : Bool) (y : ℕ) (slots : List ℕ) (F : Forecast) (bytes : List �
 
   -- WHAT IT PASSES: a run of one record, with any allowance from 4096 on
   module _ (one : recordsOf bytes ≡ asked b y ∷ []) (big : 4096 ≤ allowance) (h : Roomy F) where
-    module _ (e : check slots F ≡ 0) (w : Ends slots F bytes allowance r rest) where
-      small : lent (asked b y) slots F .answer .moves ≤ allowance
+    module _ (e : check profile slots F ≡ 0) (w : Ends profile slots F bytes allowance r rest) where
+      small : lent profile (asked b y) slots F .answer .moves ≤ allowance
       small =
-          let c = checked slots F e in
-          omega (arith, moves-bound (heightOf (length slots)) (c .0) (c .1) (asked b y) (roomOf slots F) (c .2))
+          let c = checked profile slots F e in
+          omega (arith, moves-bound (profileOf profile) (heightOf (length slots)) (c .0) (c .1) (asked b y) (roomOf slots F) (c .2))
 
-      single : SingleRun (sharesOf slots) (asked b y) (roomOf slots F) (whole slots F bytes allowance)
-      single = single-run (sharesOf slots) allowance bytes (roomOf slots F) b y one small
+      single : SingleRun (sharesOf profile slots) (asked b y) (roomOf slots F) (whole profile slots F bytes allowance)
+      single = single-run (sharesOf profile slots) allowance bytes (roomOf slots F) b y one small
 
-      number : verdictNumber (r .last) ≡ lent (asked b y) slots F .answer .number
+      number : verdictNumber (r .last) ≡ lent profile (asked b y) slots F .answer .number
       number = w .single (asked b y) one (single .stop)
 
-      sparse : s ≡ lent (asked b y) slots F .answer .sparse
+      sparse : s ≡ lent profile (asked b y) slots F .answer .sparse
       sparse =
-          t .is (checked slots F e .0)
-          ∙ ap {B = Bool} (λ n. not b && isAccepted (r .last) && ltb n (sparseBelow (sharesOf slots))) (w .keys ∙ ap (λ (R : Room). length (keys (R .segments))) (single .room))
-          ∙ sparse-is (sharesOf slots) b y (roomOf slots F) (r .last) number
+          t .is (checked profile slots F e .0)
+          ∙ ap {B = Bool} (λ n. not b && isAccepted (r .last) && ltb n (sparseBelow (sharesOf profile slots))) (w .keys ∙ ap (λ (R : Room). length (keys (R .segments))) (single .room))
+          ∙ sparse-is (sharesOf profile slots) b y (roomOf slots F) (r .last) number
 
-      requested-done : Requested (asked b y) slots F (replyOf r s) rest
+      requested-done : Requested profile (asked b y) slots F (replyOf r s) rest
       requested-done =
-          let a = request-ruled (asked b y) slots F h e in
+          let a = request-ruled profile (asked b y) slots F h e in
           record {
             answer = _∙_ {A = Answer} (λ i. record { number = number i; moves = (ap (λ (t : Tally). t .moves) (w .tally) ∙ single .moves) i; sparse = sparse i }) (sym (a .answer));
             forecast = w .forecast ∙ ap (λ (R : Room). forecastOf (R .cells)) (single .room) ∙ sym (a .forecast);
@@ -124,9 +125,9 @@ module _ (b : Bool) (y : ℕ) (slots : List ℕ) (F : Forecast) (bytes : List �
           }
 
     -- EITHER
-    pub requested : Opens slots F bytes allowance r rest → Requested (asked b y) slots F (replyOf r s) rest
+    pub requested : Opens profile slots F bytes allowance r rest → Requested profile (asked b y) slots F (replyOf r s) rest
     requested o =
-        elim (decLt 0 (check slots F)) [
-          | yes p ↦ (let n : check slots F ≢ 0 = omega arith in requested-refused n (o .refused n))
-          | no p ↦ (let c : check slots F ≡ 0 = omega arith in requested-done c (o .ended c))
+        elim (decLt 0 (check profile slots F)) [
+          | yes p ↦ (let n : check profile slots F ≢ 0 = omega arith in requested-refused n (o .refused n))
+          | no p ↦ (let c : check profile slots F ≡ 0 = omega arith in requested-done c (o .ended c))
         ]

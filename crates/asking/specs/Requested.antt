@@ -9,6 +9,7 @@ use Rattle.forecast.specs.declared.Forecast.{Forecast}
 use Rattle.rules.specs.declared.Request.{Request}
 use Rattle.rules.specs.declared.Verdict.{Verdict}
 use Rattle.rules.specs.Refusals.{verdictNumber}
+use Rattle.rules.specs.Profiles.{profileOf}
 use Rattle.rules.specs.Shares.{shares, sparseBelow}
 use Rattle.rules.specs.Placing.{Answer}
 use Rattle.rules.specs.Calls as rules
@@ -16,15 +17,15 @@ use Rattle.tallies.specs.Counted.{isAccepted}
 use Rattle.asking.specs.declared.Reply.{Reply}
 
 -- Whether the list is told sparse: by the keys left where it has a height, and never where the request is refused.
-pub record TellsSparse (grows : Bool) (v : Verdict) (keys long : ℕ) (r : Bool) : Type 0 where
-  pub is : 1 ≤ heightOf long → r ≡ (not grows && isAccepted v && ltb keys (sparseBelow (shares (heightOf long))))
+pub record TellsSparse (profile : ℕ) (grows : Bool) (v : Verdict) (keys long : ℕ) (r : Bool) : Type 0 where
+  pub is : 1 ≤ heightOf long → r ≡ (not grows && isAccepted v && ltb keys (sparseBelow (shares (profileOf profile) (heightOf long))))
   pub refused : isAccepted v ≡ false → r ≡ false
 
 -- insert and delete alike, before they are told apart
 abbrev pub answerOf : Reply → Answer
 answerOf r = record { number = verdictNumber (r .verdict); moves = r .moves; sparse = r .sparse }
 
-pub record Requested (q : Request) (slots : List ℕ) (F : Forecast) (r : Reply) (left : List ℕ) : Type 0 where
-  pub answer : answerOf r ≡ rules.request q slots F .answer
-  pub forecast : r .forecast ≡ rules.request q slots F .forecast
-  pub slots-left : left ≡ rules.request q slots F .slots
+pub record Requested (profile : ℕ) (q : Request) (slots : List ℕ) (F : Forecast) (r : Reply) (left : List ℕ) : Type 0 where
+  pub answer : answerOf r ≡ rules.request profile q slots F .answer
+  pub forecast : r .forecast ≡ rules.request profile q slots F .forecast
+  pub slots-left : left ≡ rules.request profile q slots F .slots

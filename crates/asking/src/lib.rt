@@ -12,9 +12,9 @@ pub struct Reply {
     pub sparse: bool,
 }
 
-// Told of an accepted delete: of a list of `long` slots, fewer keys are left than its shape's floor.
-fn is_sparse(grows: bool, verdict: Verdict, keys: usize, long: usize) -> bool
-    ensures { λ r. ⌜ TellsSparse grows verdict keys long r ⌝ }
+// Told of an accepted delete: of a list of `long` slots in a profile, fewer keys are left than its shape's floor.
+fn is_sparse(profile: u64, grows: bool, verdict: Verdict, keys: usize, long: usize) -> bool
+    ensures { λ r. ⌜ TellsSparse profile grows verdict keys long r ⌝ }
 {
     if grows {
         return false;
@@ -26,20 +26,20 @@ fn is_sparse(grows: bool, verdict: Verdict, keys: usize, long: usize) -> bool
     if height == 0 {
         return false;
     }
-    let shape = shares::shape_of(height);
+    let shape = shares::shape_of(shares::profile_of(profile), height);
     keys < shape.floor
 }
 
 // The request's record is worked with an allowance that it cannot pass.
-pub fn ask(list: &mut [u64], forecast: Forecast, grows: bool, key: u64) -> Reply
-    ensures { λ r. ⌜ Requested (asked grows key) (now (list .entry)) forecast r (now (list .exit)) ⌝ }
+pub fn ask(profile: u64, list: &mut [u64], forecast: Forecast, grows: bool, key: u64) -> Reply
+    ensures { λ r. ⌜ Requested profile (asked grows key) (now (list .entry)) forecast r (now (list .exit)) ⌝ }
 {
     let bytes = records::record_of(grows, key);
-    let worked = opening::work_lent(list, forecast, &bytes, 18446744073709551615);
+    let worked = opening::work_lent(profile, list, forecast, &bytes, 18446744073709551615);
     let after = worked.forecast;
     let tally = worked.tally;
     let last = worked.last;
-    let sparse = is_sparse(grows, last, worked.keys, list.len());
+    let sparse = is_sparse(profile, grows, last, worked.keys, list.len());
     Reply {
         forecast: after,
         verdict: last,

@@ -8,28 +8,29 @@ use Rattle.forecast.specs.declared.Forecast.{Forecast}
 use Rattle.rules.specs.declared.Refusal.{Refusal}
 use Rattle.rules.specs.declared.Verdict.the-variants.{Refused, Accepted}
 use Rattle.rules.specs.Refusals.{verdictNumber}
-use Rattle.rules.specs.Shares.{shares}
+use Rattle.rules.specs.Profiles.{numberOf}
 use Rattle.rules.specs.Checks.{checkList, check}
-use Rattle.shares.specs.Rows.{blankShape, Fetched}
+use Rattle.shares.specs.Rows.{sharesAt, blankShape, Fetched}
 use Rattle.checks.specs.declared.Listing.{Listing}
 
 -- A check that refuses.
 abbrev pub refusing : Refusal → Listing
 refusing x = record { verdict = Refused x; shape = blankShape; keys = 0 }
 
--- Number n of the check; where that is 0, the list's shape and its number of keys.
-pub record Looked (slots : List ℕ) (n : ℕ) (r : Listing) : Type 0 where
+-- Number n of the check; where that is 0, the list's shape in the profile of this number, and its number of keys.
+pub record Looked (profile : ℕ) (slots : List ℕ) (n : ℕ) (r : Listing) : Type 0 where
   pub number : verdictNumber (r .verdict) ≡ n
+  pub named : r .verdict ≡ Accepted → numberOf (r .shape .profile) ≡ profile
   pub height : r .verdict ≡ Accepted → r .shape .height ≡ heightOf (length slots)
-  pub shape : r .verdict ≡ Accepted → Fetched (shares (r .shape .height)) (r .shape)
+  pub shape : r .verdict ≡ Accepted → Fetched (sharesAt (r .shape)) (r .shape)
   pub keys : r .verdict ≡ Accepted → r .keys ≡ length (live slots)
 
 -- The check of the list alone; of list and forecast.
-abbrev pub ListLooked : List ℕ → Listing → Type 0
-ListLooked slots r = Looked slots (checkList slots) r
+abbrev pub ListLooked : ℕ → List ℕ → Listing → Type 0
+ListLooked profile slots r = Looked profile slots (checkList profile slots) r
 
-abbrev pub BothLooked : List ℕ → Forecast → Listing → Type 0
-BothLooked slots F r = Looked slots (check slots F) r
+abbrev pub BothLooked : ℕ → List ℕ → Forecast → Listing → Type 0
+BothLooked profile slots F r = Looked profile slots (check profile slots F) r
 
 -- Where the check accepts, each segment has its number of keys in its place.
 pub record Counting (slots : List ℕ) (r : Listing) (counts : List ℕ) : Type 0 where

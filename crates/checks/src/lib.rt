@@ -1,4 +1,4 @@
-// The check of what is lent: refusals 1 to 4.
+// The check of what is lent: refusals 15 and 1 to 4.
 ghost use mathlib.Core.Path.{_≡_};
 ghost use lib.ListN.{length};
 ghost use Rattle.checks.specs.Listings.{refusing, ListLooked, BothLooked, Counting};
@@ -25,12 +25,15 @@ fn refuse(refusal: Refusal) -> Listing
     }
 }
 
-// Refusals 1 to 3, of any slots; where it accepts, the number of keys of each segment is in its place of `counts`.
-pub fn look_over(list: &[u64], counts: &mut [usize]) -> Listing
+// Refusals 15 and 1 to 3, of any number for a profile and any slots; where it accepts, the number of keys of each segment is in its place of `counts`.
+pub fn look_over(profile: u64, list: &[u64], counts: &mut [usize]) -> Listing
     requires { ⌜ length (now counts) ≡ 64 ⌝ }
-    ensures looked { λ r. ⌜ ListLooked (now (list .entry)) r ⌝ }
+    ensures looked { λ r. ⌜ ListLooked profile (now (list .entry)) r ⌝ }
     ensures counts { λ r. ⌜ Counting (now (list .entry)) r (now (counts .exit)) ⌝ }
 {
+    if !shares::is_profile(profile) {
+        return refuse(Refusal::UnknownProfile);
+    }
     let height = places::heights::height_of(list.len());
     if height == 0 {
         return refuse(Refusal::WrongLength);
@@ -40,7 +43,7 @@ pub fn look_over(list: &[u64], counts: &mut [usize]) -> Listing
     if !reading::is_kept(order) {
         return refuse(Refusal::WrongOrder);
     }
-    let shape = shares::shape_of(height);
+    let shape = shares::shape_of(shares::profile_of(profile), height);
     if shape.capacity < reading.keys {
         return refuse(Refusal::TooManyKeys);
     }
@@ -51,13 +54,18 @@ pub fn look_over(list: &[u64], counts: &mut [usize]) -> Listing
     }
 }
 
-// Refusals 1 to 4, of any slots and any forecast; the counts as above.
-pub fn look_over_both(list: &[u64], forecast: Forecast, counts: &mut [usize]) -> Listing
+// Refusals 15 and 1 to 4, with any forecast; the counts as above.
+pub fn look_over_both(
+    profile: u64,
+    list: &[u64],
+    forecast: Forecast,
+    counts: &mut [usize],
+) -> Listing
     requires { ⌜ length (now counts) ≡ 64 ⌝ }
-    ensures looked { λ r. ⌜ BothLooked (now (list .entry)) forecast r ⌝ }
+    ensures looked { λ r. ⌜ BothLooked profile (now (list .entry)) forecast r ⌝ }
     ensures counts { λ r. ⌜ Counting (now (list .entry)) r (now (counts .exit)) ⌝ }
 {
-    let listing = look_over(list, counts);
+    let listing = look_over(profile, list, counts);
     let verdict = listing.verdict;
     if let Verdict::Refused(_) = verdict {
         return listing;

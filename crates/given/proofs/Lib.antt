@@ -1,4 +1,5 @@
 pub mod Over
+pub mod Sizes
 pub mod Numbers
 pub mod Leaves
 pub mod OneOutcome

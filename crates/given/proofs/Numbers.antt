@@ -10,7 +10,7 @@ use lib.ListN.{length}
 use Rattle.lists.proofs.Tests.{double-not, neqb→ne}
 use Rattle.rules.specs.Checks as checks
 use Rattle.rules.specs.Calls as rules
-use Rattle.rules.specs.Rows.{Row, Tells, row1, listRows, bothRows, lookupRows, insertRows, deleteRows, stopRows, runRows}
+use Rattle.rules.specs.Rows.{Row, Tells, row1, row15, listRows, bothRows, lookupRows, insertRows, deleteRows, stopRows, runRows}
 use Rattle.rules.proofs.Refusals.RowsInOrder.{Decides, tells-if, tells-after}
 use Rattle.rules.proofs.Refusals.Numbers as below
 use Rattle.rules.proofs.Running.Runs.{run-refused}
@@ -45,23 +45,23 @@ sized-tells wrong W rs lent o d t = tells-if (λ (x : Given). x .number) wrong (
 
 pub make-tells : MakeTells
 unfolding make
-make-tells list forecast = sized-tells (notForecast forecast) (NotForecast forecast) (row1 list ∷ []) _ _ (unequal (length forecast) 37) (below.make-tells list)
+make-tells profile list forecast = sized-tells (notForecast forecast) (NotForecast forecast) (row15 profile ∷ row1 list ∷ []) _ _ (unequal (length forecast) 37) (below.make-tells profile list)
 
 pub check-tells : CheckTells
 unfolding check
-check-tells list forecast =
-    sized-tells (notForecast forecast) (NotForecast forecast) (bothRows list (forecastIn forecast)) _ _ (unequal (length forecast) 37)
-    (below.check-tells list (forecastIn forecast) (roomy forecast))
+check-tells profile list forecast =
+    sized-tells (notForecast forecast) (NotForecast forecast) (bothRows profile list (forecastIn forecast)) _ _ (unequal (length forecast) 37)
+    (below.check-tells profile list (forecastIn forecast) (roomy forecast))
 
 pub lookup-tells : LookupTells
 unfolding lookup
-lookup-tells list key reply =
-    sized-tells (short reply 2) (length reply < 2) (lookupRows list key) _ _ (shorter (length reply) 2) (below.lookup-tells list key)
+lookup-tells profile list key reply =
+    sized-tells (short reply 2) (length reply < 2) (lookupRows profile list key) _ _ (shorter (length reply) 2) (below.lookup-tells profile list key)
 
 pub scan-tells : ScanTells
 unfolding scan
-scan-tells list from output reply =
-    sized-tells (short reply 2) (length reply < 2) (listRows list) _ _ (shorter (length reply) 2) (below.scan-tells list from output)
+scan-tells profile list from output reply =
+    sized-tells (short reply 2) (length reply < 2) (listRows profile list) _ _ (shorter (length reply) 2) (below.scan-tells profile list from output)
 
 -- a forecast and a reply of n words
 both : (forecast reply : List ℕ) (n : ℕ) → Decides (notForecast forecast || short reply n) (row100 (NotForecast forecast ⊎ (length reply < n)))
@@ -69,30 +69,30 @@ both forecast reply n = either-size (notForecast forecast) (short reply n) _ _ (
 
 pub insert-tells : InsertTells
 unfolding insert
-insert-tells list forecast key reply =
-    sized-tells (notForecast forecast || short reply 1) (NotForecast forecast ⊎ (length reply < 1)) (insertRows list (forecastIn forecast) key) _ _
-    (both forecast reply 1) (below.insert-tells list (forecastIn forecast) key (roomy forecast))
+insert-tells profile list forecast key reply =
+    sized-tells (notForecast forecast || short reply 1) (NotForecast forecast ⊎ (length reply < 1)) (insertRows profile list (forecastIn forecast) key) _ _
+    (both forecast reply 1) (below.insert-tells profile list (forecastIn forecast) key (roomy forecast))
 
 pub delete-tells : DeleteTells
 unfolding delete
-delete-tells list forecast key reply =
-    sized-tells (notForecast forecast || short reply 2) (NotForecast forecast ⊎ (length reply < 2)) (deleteRows list (forecastIn forecast) key) _ _
-    (both forecast reply 2) (below.delete-tells list (forecastIn forecast) key (roomy forecast))
+delete-tells profile list forecast key reply =
+    sized-tells (notForecast forecast || short reply 2) (NotForecast forecast ⊎ (length reply < 2)) (deleteRows profile list (forecastIn forecast) key) _ _
+    (both forecast reply 2) (below.delete-tells profile list (forecastIn forecast) key (roomy forecast))
 
 -- A RUN
-module _ (list forecast requests : List ℕ) (allowance : ℕ) (totals reply : List ℕ) where
+module _ (profile : ℕ) (list forecast requests : List ℕ) (allowance : ℕ) (totals reply : List ℕ) where
   abbrev W : rules.Worked
-  W = rules.run list (forecastIn forecast) requests allowance (totalsIn totals)
+  W = rules.run profile list (forecastIn forecast) requests allowance (totalsIn totals)
 
   abbrev pub allRows : List Row
-  allRows = runRows list (forecastIn forecast) requests allowance W
+  allRows = runRows profile list (forecastIn forecast) requests allowance W
 
   pub below-tells : Tells allRows (W .reply .stop)
   below-tells =
-      tells-after (bothRows list (forecastIn forecast)) (stopRows requests allowance W) (checks.check list (forecastIn forecast)) (W .reply .stop) (omega arith)
-      (below.check-tells list (forecastIn forecast) (roomy forecast))
-      (λ n. ap (λ (w : rules.Worked). w .reply .stop) (run-refused list (forecastIn forecast) requests allowance (totalsIn totals) n)) λ z.
-      singly.run-tells list (forecastIn forecast) requests allowance (totalsIn totals) z .0
+      tells-after (bothRows profile list (forecastIn forecast)) (stopRows profile requests allowance W) (checks.check profile list (forecastIn forecast)) (W .reply .stop) (omega arith)
+      (below.check-tells profile list (forecastIn forecast) (roomy forecast))
+      (λ n. ap (λ (w : rules.Worked). w .reply .stop) (run-refused profile list (forecastIn forecast) requests allowance (totalsIn totals) n)) λ z.
+      singly.run-tells profile list (forecastIn forecast) requests allowance (totalsIn totals) z .0
 
   sizes : Decides (notForecast forecast || (notTotals totals || short reply 4)) (row100 (NotForecast forecast ⊎ ((length totals ≢ 4) ⊎ (length reply < 4))))
   sizes =
@@ -101,7 +101,7 @@ module _ (list forecast requests : List ℕ) (allowance : ℕ) (totals reply : L
 
 pub run-tells : RunTells
 unfolding run
-run-tells list forecast requests allowance totals reply =
+run-tells profile list forecast requests allowance totals reply =
     sized-tells (notForecast forecast || (notTotals totals || short reply 4)) (NotForecast forecast ⊎ ((length totals ≢ 4) ⊎ (length reply < 4)))
-    (allRows list forecast requests allowance totals reply) _ _ (sizes list forecast requests allowance totals reply)
-    (below-tells list forecast requests allowance totals reply)
+    (allRows profile list forecast requests allowance totals reply) _ _ (sizes profile list forecast requests allowance totals reply)
+    (below-tells profile list forecast requests allowance totals reply)

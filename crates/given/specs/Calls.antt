@@ -36,31 +36,31 @@ short reply n = ltb (length reply) n
 abbrev pub over : List ℕ → List ℕ → List ℕ
 over ws reply = ws ++ drop (length ws) reply
 
-unfoldable pub make : List ℕ → List ℕ → Given
-make list forecast =
-    let m : rules.Made = rules.make list in
+unfoldable pub make : ℕ → List ℕ → List ℕ → Given
+make profile list forecast =
+    let m : rules.Made = rules.make profile list in
     sized (notForecast forecast) (list ∷ forecast ∷ []) (record { number = m .number; left = m .slots ∷ forecastWords (m .forecast) ∷ [] })
 
-unfoldable pub check : List ℕ → List ℕ → Given
-check list forecast = sized (notForecast forecast) [] (record { number = checks.check list (forecastIn forecast); left = [] })
+unfoldable pub check : ℕ → List ℕ → List ℕ → Given
+check profile list forecast = sized (notForecast forecast) [] (record { number = checks.check profile list (forecastIn forecast); left = [] })
 
 -- reply: present, segment
-unfoldable pub lookup : List ℕ → ℕ → List ℕ → Given
-lookup list key reply =
-    let f : Found = rules.lookup list key in
+unfoldable pub lookup : ℕ → List ℕ → ℕ → List ℕ → Given
+lookup profile list key reply =
+    let f : Found = rules.lookup profile list key in
     sized (short reply 2) (reply ∷ []) (record { number = f .number; left = over (one (f .present) ∷ f .segment ∷ []) reply ∷ [] })
 
 -- reply: moves
-unfoldable pub insert : List ℕ → List ℕ → ℕ → List ℕ → Given
-insert list forecast key reply =
-    let c : rules.Called = rules.insert list (forecastIn forecast) key in
+unfoldable pub insert : ℕ → List ℕ → List ℕ → ℕ → List ℕ → Given
+insert profile list forecast key reply =
+    let c : rules.Called = rules.insert profile list (forecastIn forecast) key in
     sized (notForecast forecast || short reply 1) (list ∷ forecast ∷ reply ∷ [])
     (record { number = c .answer .number; left = c .slots ∷ forecastWords (c .forecast) ∷ over (c .answer .moves ∷ []) reply ∷ [] })
 
 -- reply: moves, sparse
-unfoldable pub delete : List ℕ → List ℕ → ℕ → List ℕ → Given
-delete list forecast key reply =
-    let c : rules.Called = rules.delete list (forecastIn forecast) key in
+unfoldable pub delete : ℕ → List ℕ → List ℕ → ℕ → List ℕ → Given
+delete profile list forecast key reply =
+    let c : rules.Called = rules.delete profile list (forecastIn forecast) key in
     sized (notForecast forecast || short reply 2) (list ∷ forecast ∷ reply ∷ [])
     (record {
       number = c .answer .number;
@@ -68,9 +68,9 @@ delete list forecast key reply =
     })
 
 -- reply: written, more
-unfoldable pub scan : List ℕ → ℕ → List ℕ → List ℕ → Given
-scan list from output reply =
-    let s : Scanned = rules.scan list from output in
+unfoldable pub scan : ℕ → List ℕ → ℕ → List ℕ → List ℕ → Given
+scan profile list from output reply =
+    let s : Scanned = rules.scan profile list from output in
     sized (short reply 2) (output ∷ reply ∷ [])
     (record { number = s .number; left = s .output ∷ over (s .written ∷ one (s .more) ∷ []) reply ∷ [] })
 
@@ -78,9 +78,9 @@ scan list from output reply =
 abbrev pub replyWords : Tally → List ℕ
 replyWords t = t .worked ∷ t .refused ∷ t .moves ∷ t .place ∷ []
 
-unfoldable pub run : List ℕ → List ℕ → List ℕ → ℕ → List ℕ → List ℕ → Given
-run list forecast requests allowance totals reply =
-    let w : rules.Worked = rules.run list (forecastIn forecast) requests allowance (totalsIn totals) in
+unfoldable pub run : ℕ → List ℕ → List ℕ → List ℕ → ℕ → List ℕ → List ℕ → Given
+run profile list forecast requests allowance totals reply =
+    let w : rules.Worked = rules.run profile list (forecastIn forecast) requests allowance (totalsIn totals) in
     sized (notForecast forecast || (notTotals totals || short reply 4)) (list ∷ forecast ∷ totals ∷ reply ∷ [])
     (record {
       number = w .reply .stop;

@@ -5,7 +5,7 @@ use mathlib.Core.Logic.{_⊎_, _≢_}
 use mathlib.Core.List.{List, [], _∷_}
 use lib.ListN.{length, replicate}
 use Rattle.rules.specs.Calls as rules
-use Rattle.rules.specs.Rows.{Row, Tells, row1, listRows, bothRows, lookupRows, insertRows, deleteRows, runRows}
+use Rattle.rules.specs.Rows.{Row, Tells, row1, row15, listRows, bothRows, lookupRows, insertRows, deleteRows, runRows}
 use Rattle.words.specs.Words.{forecastIn}
 use Rattle.words.specs.Totals.{totalsIn}
 use Rattle.given.specs.Calls.{Given, over, make, check, lookup, insert, delete, scan, run}
@@ -18,60 +18,61 @@ abbrev pub NotForecast : List ℕ → Type 0
 NotForecast ws = length ws ≢ 37
 
 abbrev pub MakeTells : Type 0
-MakeTells = (list forecast : List ℕ) → Tells (row100 (NotForecast forecast) ∷ row1 list ∷ []) (make list forecast .number)
+MakeTells = (profile : ℕ) (list forecast : List ℕ) → Tells (row100 (NotForecast forecast) ∷ row15 profile ∷ row1 list ∷ []) (make profile list forecast .number)
 
 abbrev pub CheckTells : Type 0
-CheckTells = (list forecast : List ℕ) → Tells (row100 (NotForecast forecast) ∷ bothRows list (forecastIn forecast)) (check list forecast .number)
+CheckTells = (profile : ℕ) (list forecast : List ℕ) → Tells (row100 (NotForecast forecast) ∷ bothRows profile list (forecastIn forecast)) (check profile list forecast .number)
 
 abbrev pub LookupTells : Type 0
-LookupTells = (list : List ℕ) (key : ℕ) (reply : List ℕ)
-    → Tells (row100 (length reply < 2) ∷ lookupRows list key) (lookup list key reply .number)
+LookupTells = (profile : ℕ) (list : List ℕ) (key : ℕ) (reply : List ℕ)
+    → Tells (row100 (length reply < 2) ∷ lookupRows profile list key) (lookup profile list key reply .number)
 
 abbrev pub ScanTells : Type 0
-ScanTells = (list : List ℕ) (from : ℕ) (output reply : List ℕ)
-    → Tells (row100 (length reply < 2) ∷ listRows list) (scan list from output reply .number)
+ScanTells = (profile : ℕ) (list : List ℕ) (from : ℕ) (output reply : List ℕ)
+    → Tells (row100 (length reply < 2) ∷ listRows profile list) (scan profile list from output reply .number)
 
 abbrev pub InsertTells : Type 0
-InsertTells = (list forecast : List ℕ) (key : ℕ) (reply : List ℕ)
-    → Tells (row100 (NotForecast forecast ⊎ (length reply < 1)) ∷ insertRows list (forecastIn forecast) key) (insert list forecast key reply .number)
+InsertTells = (profile : ℕ) (list forecast : List ℕ) (key : ℕ) (reply : List ℕ)
+    → Tells (row100 (NotForecast forecast ⊎ (length reply < 1)) ∷ insertRows profile list (forecastIn forecast) key) (insert profile list forecast key reply .number)
 
 abbrev pub DeleteTells : Type 0
-DeleteTells = (list forecast : List ℕ) (key : ℕ) (reply : List ℕ)
-    → Tells (row100 (NotForecast forecast ⊎ (length reply < 2)) ∷ deleteRows list (forecastIn forecast) key) (delete list forecast key reply .number)
+DeleteTells = (profile : ℕ) (list forecast : List ℕ) (key : ℕ) (reply : List ℕ)
+    → Tells (row100 (NotForecast forecast ⊎ (length reply < 2)) ∷ deleteRows profile list (forecastIn forecast) key) (delete profile list forecast key reply .number)
 
 -- 9 and 10 speak of the place where the run stopped.
 abbrev pub RunTells : Type 0
-RunTells = (list forecast requests : List ℕ) (allowance : ℕ) (totals reply : List ℕ)
+RunTells = (profile : ℕ) (list forecast requests : List ℕ) (allowance : ℕ) (totals reply : List ℕ)
     → Tells
     (row100 (NotForecast forecast ⊎ ((length totals ≢ 4) ⊎ (length reply < 4)))
-    ∷ runRows list (forecastIn forecast) requests allowance (rules.run list (forecastIn forecast) requests allowance (totalsIn totals)))
-    (run list forecast requests allowance totals reply .number)
+    ∷ runRows profile list (forecastIn forecast) requests allowance (rules.run profile list (forecastIn forecast) requests allowance (totalsIn totals)))
+    (run profile list forecast requests allowance totals reply .number)
 
--- WHAT A REFUSAL LEAVES: by 100 all that was lent; by 1 to 8 that too, but the listed words of the reply, which are 0.
+-- WHAT A REFUSAL LEAVES: by 100 all that was lent; by every other number but 0, 9 and 10 that too, but the listed words of the reply,
+-- which are 0.
 pub record Leaves (o : Given) (lent zeroed : List (List ℕ)) : Type 0 where
   pub misfit : o .number ≡ 100 → o .left ≡ lent
-  pub refused : 1 ≤ o .number → o .number ≤ 8 → o .left ≡ zeroed
+  pub refused : o .number ≢ 0 → o .number ≢ 9 → o .number ≢ 10 → o .number ≢ 100 → o .left ≡ zeroed
 
 -- A make that is refused gives an empty forecast too.
 abbrev pub MakeLeaves : Type 0
-MakeLeaves = (list forecast : List ℕ) → Leaves (make list forecast) (list ∷ forecast ∷ []) (list ∷ replicate 37 0 ∷ [])
+MakeLeaves = (profile : ℕ) (list forecast : List ℕ) → Leaves (make profile list forecast) (list ∷ forecast ∷ []) (list ∷ replicate 37 0 ∷ [])
 
 abbrev pub LookupLeaves : Type 0
-LookupLeaves = (list : List ℕ) (key : ℕ) (reply : List ℕ) → Leaves (lookup list key reply) (reply ∷ []) (over (0 ∷ 0 ∷ []) reply ∷ [])
+LookupLeaves = (profile : ℕ) (list : List ℕ) (key : ℕ) (reply : List ℕ) → Leaves (lookup profile list key reply) (reply ∷ []) (over (0 ∷ 0 ∷ []) reply ∷ [])
 
 abbrev pub ScanLeaves : Type 0
-ScanLeaves = (list : List ℕ) (from : ℕ) (output reply : List ℕ)
-    → Leaves (scan list from output reply) (output ∷ reply ∷ []) (output ∷ over (0 ∷ 0 ∷ []) reply ∷ [])
+ScanLeaves = (profile : ℕ) (list : List ℕ) (from : ℕ) (output reply : List ℕ)
+    → Leaves (scan profile list from output reply) (output ∷ reply ∷ []) (output ∷ over (0 ∷ 0 ∷ []) reply ∷ [])
 
 abbrev pub InsertLeaves : Type 0
-InsertLeaves = (list forecast : List ℕ) (key : ℕ) (reply : List ℕ)
-    → Leaves (insert list forecast key reply) (list ∷ forecast ∷ reply ∷ []) (list ∷ forecast ∷ over (0 ∷ []) reply ∷ [])
+InsertLeaves = (profile : ℕ) (list forecast : List ℕ) (key : ℕ) (reply : List ℕ)
+    → Leaves (insert profile list forecast key reply) (list ∷ forecast ∷ reply ∷ []) (list ∷ forecast ∷ over (0 ∷ []) reply ∷ [])
 
 abbrev pub DeleteLeaves : Type 0
-DeleteLeaves = (list forecast : List ℕ) (key : ℕ) (reply : List ℕ)
-    → Leaves (delete list forecast key reply) (list ∷ forecast ∷ reply ∷ []) (list ∷ forecast ∷ over (0 ∷ 0 ∷ []) reply ∷ [])
+DeleteLeaves = (profile : ℕ) (list forecast : List ℕ) (key : ℕ) (reply : List ℕ)
+    → Leaves (delete profile list forecast key reply) (list ∷ forecast ∷ reply ∷ []) (list ∷ forecast ∷ over (0 ∷ 0 ∷ []) reply ∷ [])
 
 abbrev pub RunLeaves : Type 0
-RunLeaves = (list forecast requests : List ℕ) (allowance : ℕ) (totals reply : List ℕ)
-    → Leaves (run list forecast requests allowance totals reply) (list ∷ forecast ∷ totals ∷ reply ∷ [])
+RunLeaves = (profile : ℕ) (list forecast requests : List ℕ) (allowance : ℕ) (totals reply : List ℕ)
+    → Leaves (run profile list forecast requests allowance totals reply) (list ∷ forecast ∷ totals ∷ reply ∷ [])
     (list ∷ forecast ∷ totals ∷ over (0 ∷ 0 ∷ 0 ∷ 0 ∷ []) reply ∷ [])

@@ -6,37 +6,37 @@ use mathlib.Core.List.{List, [], _∷_}
 use borrow.Author.Tests.{lt-ltb}
 use lib.ListN.{length}
 use Rattle.given.specs.Calls.{make, check, lookup, insert, delete, scan, run, notForecast, notTotals, short, Gives}
-use Rattle.host.proofs.Sized.{misfit}
+use Rattle.given.proofs.Sizes.{misfit}
 
-module _ (list forecast : List ℕ) (r : Bool) (e : r ≡ notForecast forecast) (t : r ≡ true) where
-  pub make-misfit : Gives (make list forecast) 100 (list ∷ forecast ∷ [])
+module _ (profile : ℕ) (list forecast : List ℕ) (r : Bool) (e : r ≡ notForecast forecast) (t : r ≡ true) where
+  pub make-misfit : Gives (make profile list forecast) 100 (list ∷ forecast ∷ [])
   unfolding make
   make-misfit = misfit _ _ _ (sym e ∙ t)
 
-  pub check-misfit : Gives (check list forecast) 100 []
+  pub check-misfit : Gives (check profile list forecast) 100 []
   unfolding check
   check-misfit = misfit _ _ _ (sym e ∙ t)
 
-module _ (list : List ℕ) (key : ℕ) (reply : List ℕ) (l : length reply < 2) where
-  pub lookup-misfit : Gives (lookup list key reply) 100 (reply ∷ [])
+module _ (profile : ℕ) (list : List ℕ) (key : ℕ) (reply : List ℕ) (l : length reply < 2) where
+  pub lookup-misfit : Gives (lookup profile list key reply) 100 (reply ∷ [])
   unfolding lookup
   lookup-misfit = misfit _ _ _ (lt-ltb (length reply) 2 l)
 
-  pub scan-misfit : (output : List ℕ) → Gives (scan list key output reply) 100 (output ∷ reply ∷ [])
+  pub scan-misfit : (output : List ℕ) → Gives (scan profile list key output reply) 100 (output ∷ reply ∷ [])
   unfolding scan
   scan-misfit output = misfit _ _ _ (lt-ltb (length reply) 2 l)
 
-module _ (list forecast : List ℕ) (key : ℕ) (reply : List ℕ) (r : Bool) where
-  pub insert-misfit : r ≡ (notForecast forecast || short reply 1) → r ≡ true → Gives (insert list forecast key reply) 100 (list ∷ forecast ∷ reply ∷ [])
+module _ (profile : ℕ) (list forecast : List ℕ) (key : ℕ) (reply : List ℕ) (r : Bool) where
+  pub insert-misfit : r ≡ (notForecast forecast || short reply 1) → r ≡ true → Gives (insert profile list forecast key reply) 100 (list ∷ forecast ∷ reply ∷ [])
   unfolding insert
   insert-misfit e t = misfit _ _ _ (sym e ∙ t)
 
-  pub delete-misfit : r ≡ (notForecast forecast || short reply 2) → r ≡ true → Gives (delete list forecast key reply) 100 (list ∷ forecast ∷ reply ∷ [])
+  pub delete-misfit : r ≡ (notForecast forecast || short reply 2) → r ≡ true → Gives (delete profile list forecast key reply) 100 (list ∷ forecast ∷ reply ∷ [])
   unfolding delete
   delete-misfit e t = misfit _ _ _ (sym e ∙ t)
 
-pub run-misfit : (list forecast requests : List ℕ) (allowance : ℕ) (totals reply : List ℕ) (r : Bool)
+pub run-misfit : (profile : ℕ) (list forecast requests : List ℕ) (allowance : ℕ) (totals reply : List ℕ) (r : Bool)
     → r ≡ (notForecast forecast || (notTotals totals || short reply 4)) → r ≡ true
-    → Gives (run list forecast requests allowance totals reply) 100 (list ∷ forecast ∷ totals ∷ reply ∷ [])
+    → Gives (run profile list forecast requests allowance totals reply) 100 (list ∷ forecast ∷ totals ∷ reply ∷ [])
 unfolding run
-run-misfit list forecast requests allowance totals reply r e t = misfit _ _ _ (sym e ∙ t)
+run-misfit profile list forecast requests allowance totals reply r e t = misfit _ _ _ (sym e ∙ t)

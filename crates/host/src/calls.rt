@@ -6,44 +6,50 @@ use crate::MISFIT;
 
 // Makes a list and its forecast empty.
 #[no_mangle]
-pub extern "C" fn ff_make(list: &mut [u64], forecast: &mut [u64]) -> u64
-    ensures { λ r. ⌜ Gives (calls.make (now (list .entry)) (now (forecast .entry))) r (now (list .exit) ∷ now (forecast .exit) ∷ []) ⌝ }
+pub extern "C" fn ff_make(profile: u64, list: &mut [u64], forecast: &mut [u64]) -> u64
+    ensures { λ r. ⌜ Gives (calls.make profile (now (list .entry)) (now (forecast .entry))) r (now (list .exit) ∷ now (forecast .exit) ∷ []) ⌝ }
 {
     if replies::sizes::no_forecast(forecast.len()) {
         return MISFIT;
     }
-    stated::make(list, forecast)
+    stated::make(profile, list, forecast)
 }
 
-// Tests refusals 1 to 4.
+// Tests refusals 15 and 1 to 4.
 #[no_mangle]
-pub extern "C" fn ff_check(list: &[u64], forecast: &[u64]) -> u64
-    ensures { λ r. ⌜ Gives (calls.check (now (list .entry)) (now (forecast .entry))) r [] ⌝ }
+pub extern "C" fn ff_check(profile: u64, list: &[u64], forecast: &[u64]) -> u64
+    ensures { λ r. ⌜ Gives (calls.check profile (now (list .entry)) (now (forecast .entry))) r [] ⌝ }
 {
     if replies::sizes::no_forecast(forecast.len()) {
         return MISFIT;
     }
-    stated::check(list, forecast)
+    stated::check(profile, list, forecast)
 }
 
 // Whether a key is live, and where.
 #[no_mangle]
-pub extern "C" fn ff_lookup(list: &[u64], key: u64, reply: &mut [u64]) -> u64
-    ensures { λ r. ⌜ Gives (calls.lookup (now (list .entry)) key (now (reply .entry))) r (now (reply .exit) ∷ []) ⌝ }
+pub extern "C" fn ff_lookup(profile: u64, list: &[u64], key: u64, reply: &mut [u64]) -> u64
+    ensures { λ r. ⌜ Gives (calls.lookup profile (now (list .entry)) key (now (reply .entry))) r (now (reply .exit) ∷ []) ⌝ }
 {
     if reply.len() < 2 {
         return MISFIT;
     }
-    stated::lookup(list, key, reply)
+    stated::lookup(profile, list, key, reply)
 }
 
 // The live keys above `from`, rising.
 #[no_mangle]
-pub extern "C" fn ff_scan(list: &[u64], from: u64, output: &mut [u64], reply: &mut [u64]) -> u64
-    ensures { λ r. ⌜ Gives (calls.scan (now (list .entry)) from (now (output .entry)) (now (reply .entry))) r (now (output .exit) ∷ now (reply .exit) ∷ []) ⌝ }
+pub extern "C" fn ff_scan(
+    profile: u64,
+    list: &[u64],
+    from: u64,
+    output: &mut [u64],
+    reply: &mut [u64],
+) -> u64
+    ensures { λ r. ⌜ Gives (calls.scan profile (now (list .entry)) from (now (output .entry)) (now (reply .entry))) r (now (output .exit) ∷ now (reply .exit) ∷ []) ⌝ }
 {
     if reply.len() < 2 {
         return MISFIT;
     }
-    stated::scan(list, from, output, reply)
+    stated::scan(profile, list, from, output, reply)
 }

@@ -7,6 +7,7 @@ use crate::MISFIT;
 // Works request records, within an allowance of moves.
 #[no_mangle]
 pub extern "C" fn ff_run(
+    profile: u64,
     list: &mut [u64],
     forecast: &mut [u64],
     requests: &[u8],
@@ -14,10 +15,10 @@ pub extern "C" fn ff_run(
     totals: &mut [u32],
     reply: &mut [u64],
 ) -> u64
-    ensures { λ r. ⌜ Gives (calls.run (now (list .entry)) (now (forecast .entry)) (now (requests .entry)) allowance (now (totals .entry)) (now (reply .entry))) r (now (list .exit) ∷ now (forecast .exit) ∷ now (totals .exit) ∷ now (reply .exit) ∷ []) ⌝ }
+    ensures { λ r. ⌜ Gives (calls.run profile (now (list .entry)) (now (forecast .entry)) (now (requests .entry)) allowance (now (totals .entry)) (now (reply .entry))) r (now (list .exit) ∷ now (forecast .exit) ∷ now (totals .exit) ∷ now (reply .exit) ∷ []) ⌝ }
 {
     if replies::sizes::run_misfits(forecast.len(), totals.len(), reply.len()) {
         return MISFIT;
     }
-    worded::run(list, forecast, requests, allowance, totals, reply)
+    worded::run(profile, list, forecast, requests, allowance, totals, reply)
 }

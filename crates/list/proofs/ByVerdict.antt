@@ -23,19 +23,19 @@ use Rattle.asking.specs.Requested.{Requested}
 use Rattle.asking.proofs.OneRecord.{outcome-dense}
 
 -- AN INSERT never tells sparse
-pub insert-dense : (slots : List ℕ) (F : Forecast) (y : ℕ) → request (Insert y) slots F .answer .sparse ≡ false
+pub insert-dense : (profile : ℕ) (slots : List ℕ) (F : Forecast) (y : ℕ) → request profile (Insert y) slots F .answer .sparse ≡ false
 unfolding request
-insert-dense slots F y =
-    either (λ (d : Called). d .answer .sparse ≡ false) (not (eqb (check slots F) 0)) refl
-    (either (λ (d : Called). d .answer .sparse ≡ false) (not (eqb (lent (Insert y) slots F .answer .number) 0)) refl (outcome-dense (sharesOf slots) y (roomOf slots F)))
+insert-dense profile slots F y =
+    either (λ (d : Called). d .answer .sparse ≡ false) (not (eqb (check profile slots F) 0)) refl
+    (either (λ (d : Called). d .answer .sparse ≡ false) (not (eqb (lent profile (Insert y) slots F .answer .number) 0)) refl (outcome-dense (sharesOf profile slots) y (roomOf slots F)))
 
 -- THE ANSWER: where it refuses, the number alone
-module _ (q : Request) (slots : List ℕ) (F : Forecast) (r : Reply) (rest : List ℕ) (c : Requested q slots F r rest) where
-  pub answer-refused : (x : Refusal) → r .verdict ≡ Refused x → refused (refusalNumber x) ≡ request q slots F .answer
+module _ (profile : ℕ) (q : Request) (slots : List ℕ) (F : Forecast) (r : Reply) (rest : List ℕ) (c : Requested profile q slots F r rest) where
+  pub answer-refused : (x : Refusal) → r .verdict ≡ Refused x → refused (refusalNumber x) ≡ request profile q slots F .answer
   answer-refused x v =
-      let n : request q slots F .answer .number ≡ refusalNumber x = sym (ap (λ (d : Answer). d .number) (c .answer)) ∙ ap verdictNumber v in
-      ap refused (sym n) ∙ sym (ap (λ (d : Called). d .answer) (request-refused q slots F (omega (arith, refusal-some x))))
+      let n : request profile q slots F .answer .number ≡ refusalNumber x = sym (ap (λ (d : Answer). d .number) (c .answer)) ∙ ap verdictNumber v in
+      ap refused (sym n) ∙ sym (ap (λ (d : Called). d .answer) (request-refused profile q slots F (omega (arith, refusal-some x))))
 
   -- where it accepts, the moves, and whether the list is sparse
-  pub answer-done : (b : Bool) → r .verdict ≡ Accepted → r .sparse ≡ b → record { number = 0; moves = r .moves; sparse = b } ≡ request q slots F .answer
+  pub answer-done : (b : Bool) → r .verdict ≡ Accepted → r .sparse ≡ b → record { number = 0; moves = r .moves; sparse = b } ≡ request profile q slots F .answer
   answer-done b v p = _∙_ {A = Answer} (λ i. record { number = ap verdictNumber (sym v) i; moves = r .moves; sparse = sym p i }) (c .answer)

@@ -10,10 +10,16 @@ use rules::Refusal;
 use rules::Verdict;
 
 // Writes 0 in every slot and gives an empty forecast.
-pub fn make(list: &mut [u64]) -> MakeReply
-    ensures { λ r. ⌜ MakeAdmits (now (list .entry)) r (now (list .exit)) ⌝ }
+pub fn make(profile: u64, list: &mut [u64]) -> MakeReply
+    ensures { λ r. ⌜ MakeAdmits profile (now (list .entry)) r (now (list .exit)) ⌝ }
 {
     let forecast = Forecast::empty();
+    if !shares::is_profile(profile) {
+        return MakeReply {
+            forecast,
+            answer: MakeAnswer::Refused(Refusal::UnknownProfile),
+        };
+    }
     if places::heights::height_of(list.len()) == 0 {
         return MakeReply {
             forecast,
@@ -28,12 +34,12 @@ pub fn make(list: &mut [u64]) -> MakeReply
     }
 }
 
-// Tests refusals 1 to 4 and changes nothing.
-pub fn check(list: &[u64], forecast: Forecast) -> CheckAnswer
-    ensures { λ r. ⌜ CheckAdmits (now (list .entry)) forecast r ⌝ }
+// Tests refusals 15 and 1 to 4 and changes nothing.
+pub fn check(profile: u64, list: &[u64], forecast: Forecast) -> CheckAnswer
+    ensures { λ r. ⌜ CheckAdmits profile (now (list .entry)) forecast r ⌝ }
 {
     let mut counts: [usize; 64] = [0; 64];
-    let verdict = checks::look_over_both(list, forecast, &mut counts).verdict;
+    let verdict = checks::look_over_both(profile, list, forecast, &mut counts).verdict;
     match verdict {
         Verdict::Refused(refusal) => CheckAnswer::Refused(refusal),
         Verdict::Accepted => CheckAnswer::Passed,
@@ -41,11 +47,11 @@ pub fn check(list: &[u64], forecast: Forecast) -> CheckAnswer
 }
 
 // Whether a key is live, and where.
-pub fn lookup(list: &[u64], key: u64) -> LookupAnswer
-    ensures { λ r. ⌜ LookupAdmits (now (list .entry)) key r ⌝ }
+pub fn lookup(profile: u64, list: &[u64], key: u64) -> LookupAnswer
+    ensures { λ r. ⌜ LookupAdmits profile (now (list .entry)) key r ⌝ }
 {
     let mut counts: [usize; 64] = [0; 64];
-    let verdict = checks::look_over(list, &mut counts).verdict;
+    let verdict = checks::look_over(profile, list, &mut counts).verdict;
     if let Verdict::Refused(refusal) = verdict {
         return LookupAnswer::Refused(refusal);
     }
@@ -53,11 +59,11 @@ pub fn lookup(list: &[u64], key: u64) -> LookupAnswer
 }
 
 // The live keys above `from`, rising, into `output` until it is full or they end.
-pub fn scan(list: &[u64], from: u64, output: &mut [u64]) -> ScanAnswer
-    ensures { λ r. ⌜ ScanAdmits (now (list .entry)) from (now (output .entry)) r (now (output .exit)) ⌝ }
+pub fn scan(profile: u64, list: &[u64], from: u64, output: &mut [u64]) -> ScanAnswer
+    ensures { λ r. ⌜ ScanAdmits profile (now (list .entry)) from (now (output .entry)) r (now (output .exit)) ⌝ }
 {
     let mut counts: [usize; 64] = [0; 64];
-    let verdict = checks::look_over(list, &mut counts).verdict;
+    let verdict = checks::look_over(profile, list, &mut counts).verdict;
     if let Verdict::Refused(refusal) = verdict {
         return ScanAnswer::Refused(refusal);
     }

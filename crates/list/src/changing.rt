@@ -8,10 +8,10 @@ use forecast::Forecast;
 use rules::Verdict;
 
 // Puts a new key in.
-pub fn insert(list: &mut [u64], forecast: Forecast, key: u64) -> InsertReply
-    ensures { λ r. ⌜ InsertAdmits (now (list .entry)) forecast key r (now (list .exit)) ⌝ }
+pub fn insert(profile: u64, list: &mut [u64], forecast: Forecast, key: u64) -> InsertReply
+    ensures { λ r. ⌜ InsertAdmits profile (now (list .entry)) forecast key r (now (list .exit)) ⌝ }
 {
-    let reply = asking::ask(list, forecast, true, key);
+    let reply = asking::ask(profile, list, forecast, true, key);
     let verdict = reply.verdict;
     let after = reply.forecast;
     if let Verdict::Refused(refusal) = verdict {
@@ -27,10 +27,10 @@ pub fn insert(list: &mut [u64], forecast: Forecast, key: u64) -> InsertReply
 }
 
 // Takes a live key out.
-pub fn delete(list: &mut [u64], forecast: Forecast, key: u64) -> DeleteReply
-    ensures { λ r. ⌜ DeleteAdmits (now (list .entry)) forecast key r (now (list .exit)) ⌝ }
+pub fn delete(profile: u64, list: &mut [u64], forecast: Forecast, key: u64) -> DeleteReply
+    ensures { λ r. ⌜ DeleteAdmits profile (now (list .entry)) forecast key r (now (list .exit)) ⌝ }
 {
-    let reply = asking::ask(list, forecast, false, key);
+    let reply = asking::ask(profile, list, forecast, false, key);
     let verdict = reply.verdict;
     let after = reply.forecast;
     let moves = reply.moves;

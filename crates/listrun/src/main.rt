@@ -1,4 +1,4 @@
-// Makes a list of height 2, works at most 65,536 bytes of request records from standard input on it, and writes the keys now live, the
+// Makes a list of height 2 in profile 1, works at most 65,536 bytes of request records from standard input on it, and writes the keys now live, the
 // run's moves, the sweeps made and the stop number; then each segment's number and key count, a line each. Further input stays unread.
 use libc::STDOUT_FILENO;
 use rules::Totals;
@@ -34,14 +34,14 @@ fn main() {
     let mut input = io::large_buffer();
     let n = io::read_full(0, &mut input);
     let mut slots = [0u64; 256];
-    let made = list::calls::make(&mut slots);
+    let made = list::calls::make(1, &mut slots);
     let totals = Totals {
         worked: 0,
         refused: 0,
         moved: 0,
         sweeps: 0,
     };
-    let done = run::running::run_with(&mut slots, made.forecast, &input[..n], 1000000, totals);
+    let done = run::running::run_with(1, &mut slots, made.forecast, &input[..n], 1000000, totals);
     let reply = done.reply;
     let tally = reply.tally;
     let stop = reply.stop;

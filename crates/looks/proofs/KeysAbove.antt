@@ -19,6 +19,7 @@ use Rattle.slots.proofs.Seats.{seat-between, seat-member}
 use Rattle.rules.specs.Checks.{checkList}
 use Rattle.rules.specs.Looking.{Scanned, scanned}
 use Rattle.rules.proofs.Requests.Shown.{shows-passed}
+use Rattle.rules.proofs.Refusals.CheckCases.{scan-passed}
 use Rattle.rules.proofs.Sets.SetLaws.{above-beyond}
 use Rattle.rules.proofs.Sets.SetScan.{scanned-more}
 use Rattle.answers.specs.declared.ScanAnswer.{ScanAnswer}
@@ -26,7 +27,6 @@ use Rattle.answers.specs.Answers.{scanPaper}
 use Rattle.answers.specs.Admits.{ScanAdmits}
 use Rattle.scans.specs.declared.Written.{Written}
 use Rattle.scans.specs.Scans.{Wrote, keysFrom}
-use Rattle.answers.proofs.Replies.{scan-passed}
 
 -- WHERE THEY BEGIN
 module _ (y : ℕ) (ss : Segments) (listed : Listed ss) (some : 0 < length ss) where
@@ -76,9 +76,9 @@ module _ (y : ℕ) (ss : Segments) (listed : Listed ss) (some : 0 < length ss) w
         omega (arith, place-old y there rises m, l .at, l .held)
 
 -- BY THE COUNTS of the segments: 64 at most
-pub few-counted : (slots counts : List ℕ) → checkList slots ≡ 0 → CountsOf (segmentsOf slots) counts → (k : ℕ) → k < length slots / 64 → getD counts k 0 ≤ 64
-few-counted slots counts e c k h =
-    let sh : Shows (segmentsOf slots) slots = shows-passed slots e in
+pub few-counted : (profile : ℕ) (slots counts : List ℕ) → checkList profile slots ≡ 0 → CountsOf (segmentsOf slots) counts → (k : ℕ) → k < length slots / 64 → getD counts k 0 ≤ 64
+few-counted profile slots counts e c k h =
+    let sh : Shows (segmentsOf slots) slots = shows-passed profile slots e in
     let n : 64 * k + 64 ≤ length slots = omega arith in
     omega (arith, c k (shown-within (segmentsOf slots) slots sh k n), shown-few (segmentsOf slots) slots sh k n)
 
@@ -88,18 +88,18 @@ pub record Tells (d : Written) (r : ScanAnswer) : Type 0 where
   pub written : scanPaper r .written ≡ d .keys
   pub more : scanPaper r .more ≡ d .more
 
-pub wrote-admits : (slots : List ℕ) (a : ℕ) (out ks : List ℕ) (d : Written) (r : ScanAnswer) (left : List ℕ) → checkList slots ≡ 0 → above a (keys (segmentsOf slots)) ≡ ks
-    → Wrote ks out d left → Tells d r → ScanAdmits slots a out r left
+pub wrote-admits : (profile : ℕ) (slots : List ℕ) (a : ℕ) (out ks : List ℕ) (d : Written) (r : ScanAnswer) (left : List ℕ) → checkList profile slots ≡ 0 → above a (keys (segmentsOf slots)) ≡ ks
+    → Wrote ks out d left → Tells d r → ScanAdmits profile slots a out r left
 unfolding scanned
-wrote-admits slots a out ks d r left e q v t =
-    let p = scan-passed slots a out e in
+wrote-admits profile slots a out ks d r left e q v t =
+    let p = scan-passed profile slots a out e in
     let ss : Segments = segmentsOf slots in
     let w : Wrote (above a (keys ss)) out d left = subst (λ (l : List ℕ). Wrote l out d left) (sym q) v in
     record {
       number = t .number ∙ sym (ap (λ (s : Scanned). s .number) p);
       written = t .written ∙ w .written ∙ sym (ap (λ (s : Scanned). s .written) p);
       more =
-          t .more ∙ w .more ∙ ap {B = Bool} (λ f. ltb (length (take (length out) f)) (length f)) (above-beyond a (keys ss)) ∙ sym (scanned-more a ss out (shows-passed slots e .listed .rising))
+          t .more ∙ w .more ∙ ap {B = Bool} (λ f. ltb (length (take (length out) f)) (length f)) (above-beyond a (keys ss)) ∙ sym (scanned-more a ss out (shows-passed profile slots e .listed .rising))
           ∙ sym (ap (λ (s : Scanned). s .more) p);
       output = w .output ∙ sym (ap (λ (s : Scanned). s .output) p);
     }

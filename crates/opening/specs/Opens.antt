@@ -11,14 +11,14 @@ use Rattle.steps.specs.declared.Worked.{Worked}
 use Rattle.steps.specs.Works.{Ends}
 
 -- Refused by the check: its number, and all as it was.
-pub record Refuses (slots : List ℕ) (F : Forecast) (r : Worked) (left : List ℕ) : Type 0 where
+pub record Refuses (profile : ℕ) (slots : List ℕ) (F : Forecast) (r : Worked) (left : List ℕ) : Type 0 where
   pub tally : r .tally ≡ nothing
-  pub stop : verdictNumber (r .stop) ≡ check slots F
-  pub last : verdictNumber (r .last) ≡ check slots F
+  pub stop : verdictNumber (r .stop) ≡ check profile slots F
+  pub last : verdictNumber (r .last) ≡ check profile slots F
   pub forecast : r .forecast ≡ F
   pub slots-left : left ≡ slots
 
 -- Or what the records come to.
-pub record Opens (slots : List ℕ) (F : Forecast) (bytes : List ℕ) (allowance : ℕ) (r : Worked) (left : List ℕ) : Type 0 where
-  pub refused : check slots F ≢ 0 → Refuses slots F r left
-  pub ended : check slots F ≡ 0 → Ends slots F bytes allowance r left
+pub record Opens (profile : ℕ) (slots : List ℕ) (F : Forecast) (bytes : List ℕ) (allowance : ℕ) (r : Worked) (left : List ℕ) : Type 0 where
+  pub refused : check profile slots F ≢ 0 → Refuses profile slots F r left
+  pub ended : check profile slots F ≡ 0 → Ends profile slots F bytes allowance r left

@@ -6,11 +6,17 @@ use steps::Worked;
 
 // The check; where it accepts, the counts and bounds of the segments, a buffer for plans, and the records within an allowance of moves.
 // Where it refuses, that stops them and nothing else has happened.
-pub fn work_lent(list: &mut [u64], forecast: Forecast, requests: &[u8], allowance: u64) -> Worked
-    ensures { λ r. ⌜ Opens (now (list .entry)) forecast (now (requests .entry)) allowance r (now (list .exit)) ⌝ }
+pub fn work_lent(
+    profile: u64,
+    list: &mut [u64],
+    forecast: Forecast,
+    requests: &[u8],
+    allowance: u64,
+) -> Worked
+    ensures { λ r. ⌜ Opens profile (now (list .entry)) forecast (now (requests .entry)) allowance r (now (list .exit)) ⌝ }
 {
     let mut counts: [usize; 64] = [0; 64];
-    let listing = checks::look_over_both(list, forecast, &mut counts);
+    let listing = checks::look_over_both(profile, list, forecast, &mut counts);
     let verdict = listing.verdict;
     if let Verdict::Refused(_) = verdict {
         return Worked {

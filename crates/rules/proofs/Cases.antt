@@ -1,4 +1,5 @@
 -- Computed cases: document 01's sums and our own.
 pub mod Sums
 pub mod OwnCases
+pub mod SecondCases
 pub mod RefusalCases

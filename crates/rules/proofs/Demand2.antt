@@ -1,3 +1,4 @@
 -- Demand 2: the answers are the plain set's; slots, forecast and moves are the rules'.
 pub mod Answered
 pub mod Ruled
+pub mod Mixed

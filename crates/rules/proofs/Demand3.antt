@@ -4,4 +4,3 @@ pub mod Told
 pub mod Again
 pub mod Lent
 pub mod AgainCases
-pub mod LentCases

@@ -7,6 +7,7 @@ use Rattle.rules.proofs.Running.Singly.{run-tells, run-is-singly, run-k
 use Rattle.rules.proofs.Running.InTwo.{run-in-two}
 use Rattle.rules.proofs.Requests.SingleCalls.{request-keeps}
 use Rattle.rules.proofs.Sets.PlainSet.{isSet}
+use Rattle.rules.proofs.Demand2.Mixed.{mixed-answered}
 use Rattle.rules.proofs.Demand2.Answered.{sequence-answered}
 use Rattle.rules.proofs.Demand2.Ruled.{request-ruled, sequence-ruled}
 use Rattle.rules.proofs.Sharing.Table.{table, lawful}
@@ -42,6 +43,7 @@ demands = record {
   run-keeps = run-keeps;
   is-set = isSet;
   sequence-answered = sequence-answered;
+  mixed-answered = mixed-answered;
   request-ruled = request-ruled;
   sequence-ruled = sequence-ruled;
   table = table;

@@ -4,3 +4,4 @@ pub mod SharingOut
 pub mod Splits
 pub mod Climb
 pub mod Weighing
+pub mod Profiles

@@ -1,4 +1,5 @@
--- The public calls, on slots, forecast, output, bytes and totals as they are lent: what each answers and leaves. (check stands in Checks.)
+-- The public calls, on the profile's number and slots, forecast, output, bytes and totals as they are lent: what each answers and leaves.
+-- (check stands in Checks.)
 use Prim.Native.Nat.{ℕ}
 use mathlib.Core.Bool.{false, not}
 use mathlib.Core.List.{List, []}
@@ -12,6 +13,7 @@ use Rattle.rules.specs.declared.Request.{Request}
 use Rattle.rules.specs.declared.Request.the-variants.{Insert, Delete}
 use Rattle.rules.specs.declared.Tally.{Tally}
 use Rattle.rules.specs.declared.Totals.{Totals}
+use Rattle.rules.specs.Profiles.{isProfile}
 use Rattle.rules.specs.Placing.{Room, Answer, Outcome, refused, outcome}
 use Rattle.rules.specs.Looking.{Found, notFound, lookedUp, Scanned, scanned}
 use Rattle.rules.specs.Checks.{sharesOf, checkList, check}
@@ -21,24 +23,26 @@ use Rattle.rules.specs.Runs.{nothing, Ran, ran, added}
 abbrev pub roomOf : List ℕ → Forecast → Room
 roomOf slots F = record { segments = segmentsOf slots; cells = usedCells F }
 
--- Making empty writes 0 in every slot, gives an empty forecast, and refuses only by 1; the forecast it gives is empty then too.
+-- Making empty writes 0 in every slot, gives an empty forecast, and refuses only by 15 and 1; the forecast it gives is empty then too.
 pub record Made : Type 0 where
   pub slots : List ℕ
   pub forecast : Forecast
   pub number : ℕ
 
-unfoldable pub make : List ℕ → Made
-make slots =
-    if eqb (heightOf (length slots)) 0 then record { slots = slots; forecast = forecastOf []; number = 1 }
+unfoldable pub make : ℕ → List ℕ → Made
+make profile slots =
+    if not (isProfile profile) then record { slots = slots; forecast = forecastOf []; number = 15 }
+    else if eqb (heightOf (length slots)) 0 then record { slots = slots; forecast = forecastOf []; number = 1 }
     else record { slots = replicate (length slots) 0; forecast = forecastOf []; number = 0 }
 
--- Lookup and scan take no forecast and test 1 to 3; a scan never gives 5.
-unfoldable pub lookup : List ℕ → ℕ → Found
-lookup slots y = if not (eqb (checkList slots) 0) then notFound (checkList slots) else lookedUp y (segmentsOf slots)
+-- Lookup and scan take no forecast and test 15 and 1 to 3; a scan never gives 5.
+unfoldable pub lookup : ℕ → List ℕ → ℕ → Found
+lookup profile slots y =
+    if not (eqb (checkList profile slots) 0) then notFound (checkList profile slots) else lookedUp y (segmentsOf slots)
 
-unfoldable pub scan : List ℕ → ℕ → List ℕ → Scanned
-scan slots a out =
-    if not (eqb (checkList slots) 0) then record { number = checkList slots; written = 0; more = false; output = out }
+unfoldable pub scan : ℕ → List ℕ → ℕ → List ℕ → Scanned
+scan profile slots a out =
+    if not (eqb (checkList profile slots) 0) then record { number = checkList profile slots; written = 0; more = false; output = out }
     else scanned a (segmentsOf slots) out
 
 -- A single insert or delete.
@@ -53,19 +57,19 @@ unchanged slots F n = record { slots = slots; forecast = F; answer = refused n }
 abbrev pub changed : Outcome → Called
 changed o = record { slots = render 0 (o .room .segments); forecast = forecastOf (o .room .cells); answer = o .answer }
 
-unfoldable pub request : Request → List ℕ → Forecast → Called
-request q slots F =
-    let n : ℕ = check slots F in
-    let o : Outcome = outcome (sharesOf slots) q (roomOf slots F) in
+unfoldable pub request : ℕ → Request → List ℕ → Forecast → Called
+request profile q slots F =
+    let n : ℕ = check profile slots F in
+    let o : Outcome = outcome (sharesOf profile slots) q (roomOf slots F) in
     if not (eqb n 0) then unchanged slots F n
     else if not (eqb (o .answer .number) 0) then unchanged slots F (o .answer .number)
     else changed o
 
-abbrev pub insert : List ℕ → Forecast → ℕ → Called
-insert slots F y = request (Insert y) slots F
+abbrev pub insert : ℕ → List ℕ → Forecast → ℕ → Called
+insert profile slots F y = request profile (Insert y) slots F
 
-abbrev pub delete : List ℕ → Forecast → ℕ → Called
-delete slots F y = request (Delete y) slots F
+abbrev pub delete : ℕ → List ℕ → Forecast → ℕ → Called
+delete profile slots F y = request profile (Delete y) slots F
 
 -- A run tells what it has counted, its byte place among it (where the record that stopped it begins, or the length of the request bytes at the
 -- end), and the stop number, 0 at the end.
@@ -79,7 +83,7 @@ pub record Worked : Type 0 where
   pub totals : Totals
   pub reply : Reply
 
--- Refusals 1 to 4 also leave the totals; the place is then 0, as are the other counts.
+-- Refusals 15 and 1 to 4 also leave the totals; the place is then 0, as are the other counts.
 abbrev pub stoppedAtOnce : List ℕ → Forecast → Totals → ℕ → Worked
 stoppedAtOnce slots F T n = record {
   slots = slots;
@@ -97,7 +101,7 @@ worked T r = record {
 }
 
 -- A run checks list and forecast once, then works the records in order.
-unfoldable pub run : List ℕ → Forecast → List ℕ → ℕ → Totals → Worked
-run slots F bytes allowance T =
-    let r : Ran = ran (sharesOf slots) allowance bytes (roomOf slots F) in
-    if not (eqb (check slots F) 0) then stoppedAtOnce slots F T (check slots F) else worked T r
+unfoldable pub run : ℕ → List ℕ → Forecast → List ℕ → ℕ → Totals → Worked
+run profile slots F bytes allowance T =
+    let r : Ran = ran (sharesOf profile slots) allowance bytes (roomOf slots F) in
+    if not (eqb (check profile slots F) 0) then stoppedAtOnce slots F T (check profile slots F) else worked T r

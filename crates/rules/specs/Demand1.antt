@@ -20,56 +20,57 @@ use Rattle.rules.specs.declared.Tally.{Tally}
 use Rattle.rules.specs.Runs.{one, recordsOf, added}
 use Rattle.rules.specs.Checks.{sharesOf, check}
 use Rattle.rules.specs.Calls.{roomOf, make, lookup, scan, request, insert, delete, unchanged, Worked, stoppedAtOnce, run}
-use Rattle.rules.specs.Rows.{Tells, NoneOf, row1, listRows, bothRows, lookupRows, insertRows, deleteRows, stopRows}
+use Rattle.rules.specs.Rows.{Tells, NoneOf, row1, row15, listRows, bothRows, lookupRows, insertRows, deleteRows, stopRows}
 
 -- EACH NUMBER IS GIVEN EXACTLY WHEN ITS ROW APPLIES AND NONE BEFORE IT DOES
 abbrev pub MakeTells : Type 0
-MakeTells = (slots : List ℕ) → Tells (row1 slots ∷ []) (make slots .number)
+MakeTells = (profile : ℕ) (slots : List ℕ) → Tells (row15 profile ∷ row1 slots ∷ []) (make profile slots .number)
 
 abbrev pub CheckTells : Type 0
-CheckTells = (slots : List ℕ) (F : Forecast) → Roomy F → Tells (bothRows slots F) (check slots F)
+CheckTells = (profile : ℕ) (slots : List ℕ) (F : Forecast) → Roomy F → Tells (bothRows profile slots F) (check profile slots F)
 
--- Check gives 0 exactly when none of 1 to 4 applies.
+-- Check gives 0 exactly when none of 15 and 1 to 4 applies.
 abbrev pub CheckPasses : Type 0
-CheckPasses = (slots : List ℕ) (F : Forecast) → Roomy F → (check slots F ≡ 0) ↔ NoneOf (bothRows slots F)
+CheckPasses = (profile : ℕ) (slots : List ℕ) (F : Forecast) → Roomy F → (check profile slots F ≡ 0) ↔ NoneOf (bothRows profile slots F)
 
 abbrev pub LookupTells : Type 0
-LookupTells = (slots : List ℕ) (y : ℕ) → Tells (lookupRows slots y) (lookup slots y .number)
+LookupTells = (profile : ℕ) (slots : List ℕ) (y : ℕ) → Tells (lookupRows profile slots y) (lookup profile slots y .number)
 
 abbrev pub ScanTells : Type 0
-ScanTells = (slots : List ℕ) (a : ℕ) (out : List ℕ) → Tells (listRows slots) (scan slots a out .number)
+ScanTells = (profile : ℕ) (slots : List ℕ) (a : ℕ) (out : List ℕ) → Tells (listRows profile slots) (scan profile slots a out .number)
 
 abbrev pub InsertTells : Type 0
-InsertTells = (slots : List ℕ) (F : Forecast) (y : ℕ) → Roomy F → Tells (insertRows slots F y) (insert slots F y .answer .number)
+InsertTells = (profile : ℕ) (slots : List ℕ) (F : Forecast) (y : ℕ) → Roomy F → Tells (insertRows profile slots F y) (insert profile slots F y .answer .number)
 
 abbrev pub DeleteTells : Type 0
-DeleteTells = (slots : List ℕ) (F : Forecast) (y : ℕ) → Roomy F → Tells (deleteRows slots F y) (delete slots F y .answer .number)
+DeleteTells = (profile : ℕ) (slots : List ℕ) (F : Forecast) (y : ℕ) → Roomy F → Tells (deleteRows profile slots F y) (delete profile slots F y .answer .number)
 
--- A run is refused by 1 to 4 as check tells. Else it stops at its place by 9 or 10, or at the end of the bytes.
+-- A run is refused by 15 and 1 to 4 as check tells. Else it stops at its place by 9 or 10, or at the end of the bytes.
 abbrev pub RunTells : Type 0
-RunTells = (slots : List ℕ) (F : Forecast) (bytes : List ℕ) (allowance : ℕ) (T : Totals) → check slots F ≡ 0
-    → Tells (stopRows bytes allowance (run slots F bytes allowance T)) (run slots F bytes allowance T .reply .stop)
-    × (run slots F bytes allowance T .reply .stop ≡ 0 → run slots F bytes allowance T .reply .tally .place ≡ length bytes)
-    × (run slots F bytes allowance T .reply .tally .moves ≤ allowance)
+RunTells = (profile : ℕ) (slots : List ℕ) (F : Forecast) (bytes : List ℕ) (allowance : ℕ) (T : Totals) → check profile slots F ≡ 0
+    → Tells (stopRows profile bytes allowance (run profile slots F bytes allowance T)) (run profile slots F bytes allowance T .reply .stop)
+    × (run profile slots F bytes allowance T .reply .stop ≡ 0 → run profile slots F bytes allowance T .reply .tally .place ≡ length bytes)
+    × (run profile slots F bytes allowance T .reply .tally .moves ≤ allowance)
 
 -- WHAT A REFUSAL LEAVES
 abbrev pub RequestRefused : Type 0
-RequestRefused = (q : Request) (slots : List ℕ) (F : Forecast) → request q slots F .answer .number ≢ 0
-    → request q slots F ≡ unchanged slots F (request q slots F .answer .number)
+RequestRefused = (profile : ℕ) (q : Request) (slots : List ℕ) (F : Forecast) → request profile q slots F .answer .number ≢ 0
+    → request profile q slots F ≡ unchanged slots F (request profile q slots F .answer .number)
 
 abbrev pub LookupRefused : Type 0
-LookupRefused = (slots : List ℕ) (y : ℕ) → lookup slots y .number ≢ 0 → lookup slots y ≡ notFound (lookup slots y .number)
+LookupRefused = (profile : ℕ) (slots : List ℕ) (y : ℕ) → lookup profile slots y .number ≢ 0 → lookup profile slots y ≡ notFound (lookup profile slots y .number)
 
 abbrev pub ScanRefused : Type 0
-ScanRefused = (slots : List ℕ) (a : ℕ) (out : List ℕ) → scan slots a out .number ≢ 0
-    → scan slots a out ≡ record { number = scan slots a out .number; written = 0; more = false; output = out }
+ScanRefused = (profile : ℕ) (slots : List ℕ) (a : ℕ) (out : List ℕ) → scan profile slots a out .number ≢ 0
+    → scan profile slots a out ≡ record { number = scan profile slots a out .number; written = 0; more = false; output = out }
 
 abbrev pub MakeRefused : Type 0
-MakeRefused = (slots : List ℕ) → make slots .number ≢ 0 → make slots ≡ record { slots = slots; forecast = forecastOf []; number = 1 }
+MakeRefused = (profile : ℕ) (slots : List ℕ) → make profile slots .number ≢ 0
+    → make profile slots ≡ record { slots = slots; forecast = forecastOf []; number = make profile slots .number }
 
 abbrev pub RunRefused : Type 0
-RunRefused = (slots : List ℕ) (F : Forecast) (bytes : List ℕ) (allowance : ℕ) (T : Totals) → check slots F ≢ 0
-    → run slots F bytes allowance T ≡ stoppedAtOnce slots F T (check slots F)
+RunRefused = (profile : ℕ) (slots : List ℕ) (F : Forecast) (bytes : List ℕ) (allowance : ℕ) (T : Totals) → check profile slots F ≢ 0
+    → run profile slots F bytes allowance T ≡ stoppedAtOnce slots F T (check profile slots F)
 
 -- A RUN THAT STOPS at place p leaves all as the run over the first p bytes, which ends with 0.
 pub record SameBut (W U : Worked) : Type 0 where
@@ -80,8 +81,8 @@ pub record SameBut (W U : Worked) : Type 0 where
   pub tally : U .reply .tally ≡ W .reply .tally
 
 abbrev pub RunStops : Type 0
-RunStops = (slots : List ℕ) (F : Forecast) (bytes : List ℕ) (allowance : ℕ) (T : Totals) → check slots F ≡ 0
-    → SameBut (run slots F bytes allowance T) (run slots F (take (run slots F bytes allowance T .reply .tally .place) bytes) allowance T)
+RunStops = (profile : ℕ) (slots : List ℕ) (F : Forecast) (bytes : List ℕ) (allowance : ℕ) (T : Totals) → check profile slots F ≡ 0
+    → SameBut (run profile slots F bytes allowance T) (run profile slots F (take (run profile slots F bytes allowance T .reply .tally .place) bytes) allowance T)
 
 -- A RUN IS ITS SINGLE REQUESTS, one after the other.
 pub record Series : Type 0 where
@@ -91,18 +92,18 @@ pub record Series : Type 0 where
   pub moves : ℕ
   pub sweeps : ℕ
 
-abbrev pub next : Request → Series → Series
-next q s = record {
-  slots = request q (s .slots) (s .forecast) .slots;
-  forecast = request q (s .slots) (s .forecast) .forecast;
-  refused = s .refused + one (ltb 0 (request q (s .slots) (s .forecast) .answer .number));
-  moves = s .moves + request q (s .slots) (s .forecast) .answer .moves;
-  sweeps = s .sweeps + one (outcome (sharesOf (s .slots)) q (roomOf (s .slots) (s .forecast)) .swept);
+abbrev pub next : ℕ → Request → Series → Series
+next profile q s = record {
+  slots = request profile q (s .slots) (s .forecast) .slots;
+  forecast = request profile q (s .slots) (s .forecast) .forecast;
+  refused = s .refused + one (ltb 0 (request profile q (s .slots) (s .forecast) .answer .number));
+  moves = s .moves + request profile q (s .slots) (s .forecast) .answer .moves;
+  sweeps = s .sweeps + one (outcome (sharesOf profile (s .slots)) q (roomOf (s .slots) (s .forecast)) .swept);
 }
 
-abbrev pub singly : List Request → Series → Series
-singly [] s = s
-singly (q ∷ qs) s = singly qs (next q s)
+abbrev pub singly : ℕ → List Request → Series → Series
+singly profile [] s = s
+singly profile (q ∷ qs) s = singly profile qs (next profile q s)
 
 abbrev pub begin : List ℕ → Forecast → Series
 begin slots F = record { slots = slots; forecast = F; refused = 0; moves = 0; sweeps = 0 }
@@ -119,18 +120,18 @@ pub record Equals (T : Totals) (qs : List Request) (s : Series) (W : Worked) : T
   pub totals : W .totals ≡ added T (counted qs s)
 
 abbrev pub RunIsSingly : Type 0
-RunIsSingly = (slots : List ℕ) (F : Forecast) (bytes : List ℕ) (allowance : ℕ) (T : Totals) → Roomy F → check slots F ≡ 0
-    → (qs : List Request) → qs ≡ take (run slots F bytes allowance T .reply .tally .worked) (recordsOf bytes)
-    → Equals T qs (singly qs (begin slots F)) (run slots F bytes allowance T)
+RunIsSingly = (profile : ℕ) (slots : List ℕ) (F : Forecast) (bytes : List ℕ) (allowance : ℕ) (T : Totals) → Roomy F → check profile slots F ≡ 0
+    → (qs : List Request) → qs ≡ take (run profile slots F bytes allowance T .reply .tally .worked) (recordsOf bytes)
+    → Equals T qs (singly profile qs (begin slots F)) (run profile slots F bytes allowance T)
 
 -- VALID STAYS VALID
 abbrev pub RequestKeeps : Type 0
-RequestKeeps = (q : Request) (slots : List ℕ) (F : Forecast) → check slots F ≡ 0
-    → (check (request q slots F .slots) (request q slots F .forecast) ≡ 0) × (length (request q slots F .slots) ≡ length slots)
+RequestKeeps = (profile : ℕ) (q : Request) (slots : List ℕ) (F : Forecast) → check profile slots F ≡ 0
+    → (check profile (request profile q slots F .slots) (request profile q slots F .forecast) ≡ 0) × (length (request profile q slots F .slots) ≡ length slots)
 
 abbrev pub RunKeeps : Type 0
-RunKeeps = (slots : List ℕ) (F : Forecast) (bytes : List ℕ) (allowance : ℕ) (T : Totals) → check slots F ≡ 0
-    → check (run slots F bytes allowance T .slots) (run slots F bytes allowance T .forecast) ≡ 0
+RunKeeps = (profile : ℕ) (slots : List ℕ) (F : Forecast) (bytes : List ℕ) (allowance : ℕ) (T : Totals) → check profile slots F ≡ 0
+    → check profile (run profile slots F bytes allowance T .slots) (run profile slots F bytes allowance T .forecast) ≡ 0
 
 -- A RUN IN TWO. Where the first bytes are worked to their end, a run over all the bytes is the run over the first, then the run over the
 -- rest from what that leaves, with the allowance that is left; the counts and places add up.
@@ -152,6 +153,6 @@ inTwo W U = record {
 }
 
 abbrev pub RunInTwo : Type 0
-RunInTwo = (slots : List ℕ) (F : Forecast) (first rest : List ℕ) (allowance : ℕ) (T : Totals) → run slots F first allowance T .reply .stop ≡ 0
-    → let W : Worked = run slots F first allowance T in
-    run slots F (first ++ rest) allowance T ≡ inTwo W (run (W .slots) (W .forecast) rest (allowance - W .reply .tally .moves) (W .totals))
+RunInTwo = (profile : ℕ) (slots : List ℕ) (F : Forecast) (first rest : List ℕ) (allowance : ℕ) (T : Totals) → run profile slots F first allowance T .reply .stop ≡ 0
+    → let W : Worked = run profile slots F first allowance T in
+    run profile slots F (first ++ rest) allowance T ≡ inTwo W (run profile (W .slots) (W .forecast) rest (allowance - W .reply .tally .moves) (W .totals))

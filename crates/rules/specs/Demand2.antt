@@ -1,5 +1,5 @@
 -- Demand 2. Any sequence of inserts, deletes, lookups and scans on a list made empty is answered as a plain sorted set of at most half as
--- many keys as slots would answer. After each request the slots, the forecast and the reported moves are those of the paper's rules with
+-- many keys as slots (in the second profile, 44 for every 64 slots) would answer. After each request the slots, the forecast and the reported moves are those of the paper's rules with
 -- our rounding and ties.
 use Prim.Native.Nat.{ℕ, _*_, _^_, _≤_, _<_}
 use mathlib.Core.Path.{_≡_}
@@ -14,6 +14,8 @@ use Rattle.forecast.specs.Cells.{forecastOf}
 use Rattle.forecast.specs.Tidy.{Roomy}
 use Rattle.rules.specs.declared.Request.{Request}
 use Rattle.rules.specs.declared.Request.the-variants.{Insert, Delete}
+use Rattle.rules.specs.declared.Profile.{Profile}
+use Rattle.rules.specs.Profiles.{numberOf, most, fewest}
 use Rattle.rules.specs.Shares.{Shares, shares}
 use Rattle.rules.specs.Placing.{Room, Outcome, outcome}
 use Rattle.rules.specs.Looking.{Found, Scanned}
@@ -31,42 +33,45 @@ pub record IsSet : Type 0 where
   pub rising : (a : ℕ) (ks : List ℕ) → Rising ks → Rising (set.beyond a ks)
   pub atMost : (most : ℕ) (asks : List set.Ask) → Rising (set.afterAll most asks []) × (length (set.afterAll most asks []) ≤ most)
 
--- FIRST SENTENCE. The public calls, asked the same: what they tell, and what they leave of slots and forecast.
+-- FIRST SENTENCE. The public calls, asked the same in the profile of a number: what they tell, and what they leave of slots and forecast.
 pub record Held : Type 0 where
   pub slots : List ℕ
   pub forecast : Forecast
 
-abbrev pub told : set.Ask → Held → set.Told
-told (set.Insert y) H = set.Inserted (insert (H .slots) (H .forecast) y .answer .number)
-told (set.Delete y) H = set.Deleted (delete (H .slots) (H .forecast) y .answer .number) (delete (H .slots) (H .forecast) y .answer .sparse)
-told (set.Lookup y) H = set.Found (lookup (H .slots) y .number) (lookup (H .slots) y .present)
-told (set.Scan a out) H =
-    let r : Scanned = scan (H .slots) a out in
+abbrev pub told : ℕ → set.Ask → Held → set.Told
+told profile (set.Insert y) H = set.Inserted (insert profile (H .slots) (H .forecast) y .answer .number)
+told profile (set.Delete y) H = set.Deleted (delete profile (H .slots) (H .forecast) y .answer .number) (delete profile (H .slots) (H .forecast) y .answer .sparse)
+told profile (set.Lookup y) H = set.Found (lookup profile (H .slots) y .number) (lookup profile (H .slots) y .present)
+told profile (set.Scan a out) H =
+    let r : Scanned = scan profile (H .slots) a out in
     set.Scanned (r .number) (r .written) (r .more) (r .output)
 
-abbrev pub after : set.Ask → Held → Held
-after (set.Insert y) H = record { slots = insert (H .slots) (H .forecast) y .slots; forecast = insert (H .slots) (H .forecast) y .forecast }
-after (set.Delete y) H = record { slots = delete (H .slots) (H .forecast) y .slots; forecast = delete (H .slots) (H .forecast) y .forecast }
-after (set.Lookup y) H = H
-after (set.Scan a out) H = H
+abbrev pub after : ℕ → set.Ask → Held → Held
+after profile (set.Insert y) H = record { slots = insert profile (H .slots) (H .forecast) y .slots; forecast = insert profile (H .slots) (H .forecast) y .forecast }
+after profile (set.Delete y) H = record { slots = delete profile (H .slots) (H .forecast) y .slots; forecast = delete profile (H .slots) (H .forecast) y .forecast }
+after profile (set.Lookup y) H = H
+after profile (set.Scan a out) H = H
 
-abbrev pub allTold : List set.Ask → Held → List set.Told
-allTold [] H = []
-allTold (a ∷ asks) H = told a H ∷ allTold asks (after a H)
+abbrev pub allTold : ℕ → List set.Ask → Held → List set.Told
+allTold profile [] H = []
+allTold profile (a ∷ asks) H = told profile a H ∷ allTold profile asks (after profile a H)
 
-abbrev pub afterAll : List set.Ask → Held → Held
-afterAll [] H = H
-afterAll (a ∷ asks) H = afterAll asks (after a H)
+abbrev pub afterAll : ℕ → List set.Ask → Held → Held
+afterAll profile [] H = H
+afterAll profile (a ∷ asks) H = afterAll profile asks (after profile a H)
 
-abbrev pub made : List ℕ → Held
-made slots = record { slots = make slots .slots; forecast = make slots .forecast }
+abbrev pub made : ℕ → List ℕ → Held
+made profile slots = record { slots = make profile slots .slots; forecast = make profile slots .forecast }
 
--- From make on any array of a permitted length: every answer is the set's, the live keys are the set, and list and forecast pass the check.
+-- In either profile, from make on any array of a permitted length: every answer is the set's, the live keys are the set, and list and
+-- forecast pass the check.
 abbrev pub SequenceAnswered : Type 0
-SequenceAnswered = (h : ℕ) → 1 ≤ h → h ≤ 6 → (slots : List ℕ) → length slots ≡ 64 * 2 ^ h → (asks : List set.Ask)
-    → (allTold asks (made slots) ≡ set.allTold (32 * 2 ^ h) (13 * 2 ^ h) asks [])
-    × (live (afterAll asks (made slots) .slots) ≡ set.afterAll (32 * 2 ^ h) asks [])
-    × (check (afterAll asks (made slots) .slots) (afterAll asks (made slots) .forecast) ≡ 0)
+SequenceAnswered = (p : Profile) (h : ℕ) → 1 ≤ h → h ≤ 6 → (slots : List ℕ) → length slots ≡ 64 * 2 ^ h → (asks : List set.Ask)
+    → let n : ℕ = numberOf p in
+    let left : Held = afterAll n asks (made n slots) in
+    (allTold n asks (made n slots) ≡ set.allTold (most p * 2 ^ h) (fewest p * 2 ^ h) asks [])
+    × (live (left .slots) ≡ set.afterAll (most p * 2 ^ h) asks [])
+    × (check n (left .slots) (left .forecast) ≡ 0)
 
 -- SECOND SENTENCE. What the rules alone make of an ask, on a list with its forecast: what is left, and the moves to be reported. They work
 -- requests, inserts and deletes; a lookup or a scan leaves all as it is.
@@ -94,15 +99,15 @@ abbrev pub emptyRoom : ℕ → Room
 emptyRoom h = record { segments = replicate (2 ^ h) []; cells = [] }
 
 -- The moves that the public calls report.
-abbrev pub moves : set.Ask → Held → ℕ
-moves (set.Insert y) H = insert (H .slots) (H .forecast) y .answer .moves
-moves (set.Delete y) H = delete (H .slots) (H .forecast) y .answer .moves
-moves (set.Lookup y) H = 0
-moves (set.Scan a out) H = 0
+abbrev pub moves : ℕ → set.Ask → Held → ℕ
+moves profile (set.Insert y) H = insert profile (H .slots) (H .forecast) y .answer .moves
+moves profile (set.Delete y) H = delete profile (H .slots) (H .forecast) y .answer .moves
+moves profile (set.Lookup y) H = 0
+moves profile (set.Scan a out) H = 0
 
-abbrev pub allMoves : List set.Ask → Held → List ℕ
-allMoves [] H = []
-allMoves (a ∷ asks) H = moves a H ∷ allMoves asks (after a H)
+abbrev pub allMoves : ℕ → List set.Ask → Held → List ℕ
+allMoves profile [] H = []
+allMoves profile (a ∷ asks) H = moves profile a H ∷ allMoves profile asks (after profile a H)
 
 -- What a call answers (number, moves, sparse) and leaves is what the rules say.
 pub record AsRuled (c : Called) (o : Outcome) : Type 0 where
@@ -113,19 +118,20 @@ pub record AsRuled (c : Called) (o : Outcome) : Type 0 where
 -- A request on slots and forecast that pass the check, accepted or refused: as the rules say of what they show. Where it is refused nothing
 -- has changed, and what the slots show, written out, is the slots again.
 abbrev pub RequestRuled : Type 0
-RequestRuled = (q : Request) (slots : List ℕ) (F : Forecast) → Roomy F → check slots F ≡ 0
-    → AsRuled (request q slots F) (outcome (sharesOf slots) q (roomOf slots F))
+RequestRuled = (profile : ℕ) (q : Request) (slots : List ℕ) (F : Forecast) → Roomy F → check profile slots F ≡ 0
+    → AsRuled (request profile q slots F) (outcome (sharesOf profile slots) q (roomOf slots F))
 
 -- Slots and forecast that are the room R of the rules, and show it; what the next request answers and leaves is what the rules make of R.
-pub record IsRoom (S : Shares) (R : Room) (H : Held) : Type 0 where
+pub record IsRoom (profile : ℕ) (S : Shares) (R : Room) (H : Held) : Type 0 where
   pub slots : H .slots ≡ render 0 (R .segments)
   pub forecast : H .forecast ≡ forecastOf (R .cells)
   pub shown : roomOf (H .slots) (H .forecast) ≡ R
-  pub next : (q : Request) → AsRuled (request q (H .slots) (H .forecast)) (outcome S q R)
+  pub next : (q : Request) → AsRuled (request profile q (H .slots) (H .forecast)) (outcome S q R)
 
--- From make on any array of a permitted length: what stands after any sequence is what the rules alone make of an empty list, and so are all
--- the moves reported on the way.
+-- In either profile, from make on any array of a permitted length: what stands after any sequence is what the rules alone make of an empty
+-- list, and so are all the moves reported on the way.
 abbrev pub SequenceRuled : Type 0
-SequenceRuled = (h : ℕ) → 1 ≤ h → h ≤ 6 → (slots : List ℕ) → length slots ≡ 64 * 2 ^ h → (asks : List set.Ask)
-    → IsRoom (shares h) (ruledAll (shares h) asks (emptyRoom h)) (afterAll asks (made slots))
-    × (allMoves asks (made slots) ≡ allRuledMoves (shares h) asks (emptyRoom h))
+SequenceRuled = (p : Profile) (h : ℕ) → 1 ≤ h → h ≤ 6 → (slots : List ℕ) → length slots ≡ 64 * 2 ^ h → (asks : List set.Ask)
+    → let n : ℕ = numberOf p in
+    IsRoom n (shares p h) (ruledAll (shares p h) asks (emptyRoom h)) (afterAll n asks (made n slots))
+    × (allMoves n asks (made n slots) ≡ allRuledMoves (shares p h) asks (emptyRoom h))

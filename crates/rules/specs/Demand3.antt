@@ -35,11 +35,12 @@ abbrev pub KeysKept : Type 0
 KeysKept = (S : Shares) (q : Request) (R : Room) → Proper S (R .segments) → T (accepted S q R)
     → keys (outcome S q R .room .segments) ≡ setAfter q (keys (R .segments))
 
--- No segment overflows, and the list keeps to its capacity.
+-- No segment overflows, and the list keeps to its capacity: segments of at most b keys, b being the high share of level 0 or more, stay so.
+-- (The second profile may be lent segments of 59 to 64 keys.)
 abbrev pub SizesKept : Type 0
 SizesKept = (S : Shares) → Lawful S → (q : Request) (R : Room) → Proper S (R .segments) → T (accepted S q R)
-    → All (λ x. length x ≤ S .high 0) (R .segments) → length (keys (R .segments)) ≤ capacity S
-    → All (λ x. length x ≤ S .high 0) (outcome S q R .room .segments) × (length (keys (outcome S q R .room .segments)) ≤ capacity S)
+    → (b : ℕ) → S .high 0 ≤ b → All (λ x. length x ≤ b) (R .segments) → length (keys (R .segments)) ≤ capacity S
+    → All (λ x. length x ≤ b) (outcome S q R .room .segments) × (length (keys (outcome S q R .room .segments)) ≤ capacity S)
 
 -- A request tells that it swept, as the totals count it, exactly where a window was chosen.
 abbrev pub isChosen : Option ℕ → Bool

@@ -5,6 +5,7 @@ use mathlib.Core.Option.{some}
 use mathlib.Core.List.{List, [], _∷_}
 use lib.Dec.{eqb}
 use Rattle.lists.specs.Choice.{if_then_else_}
+use Rattle.lists.specs.Lists.{All}
 use Rattle.slots.specs.Segments.{segmentsOf}
 use Rattle.slots.specs.Windows.{start, count}
 use Rattle.forecast.specs.declared.Forecast.{Forecast}
@@ -16,34 +17,47 @@ use Rattle.rules.specs.History.{Event, eventAt}
 use Rattle.rules.specs.Demand3.{SweptAgain, counting, Taken}
 
 -- The event of a request that is accepted.
-abbrev pub eventOf : Request → List ℕ → Forecast → Event
-eventOf q slots F = eventAt (sharesOf slots) q (roomOf slots F)
+abbrev pub eventOf : ℕ → Request → List ℕ → Forecast → Event
+eventOf profile q slots F = eventAt (sharesOf profile slots) q (roomOf slots F)
 
 -- FIRST PART. After a sweep, every window strictly inside the swept one holds at least the low and at most the high share of its
 -- parent's level, times its segments, whatever the forecast said.
 abbrev pub LentInside : Type 0
-LentInside = (q : Request) (slots : List ℕ) (F : Forecast) → request q slots F .answer .number ≡ 0
-    → (k : ℕ) → eventOf q slots F .level ≡ some k
-    → (j t : ℕ) → j < k → start k t ≡ start k (eventOf q slots F .at)
-    → Limits (sharesOf slots) j (suc j) (count j t (segmentsOf (request q slots F .slots)))
+LentInside = (profile : ℕ) (q : Request) (slots : List ℕ) (F : Forecast) → request profile q slots F .answer .number ≡ 0
+    → (k : ℕ) → eventOf profile q slots F .level ≡ some k
+    → (j t : ℕ) → j < k → start k t ≡ start k (eventOf profile q slots F .at)
+    → Limits (sharesOf profile slots) j (suc j) (count j t (segmentsOf (request profile q slots F .slots)))
 
--- SECOND PART. What is asked: an insert or a delete, with any forecast lent with it; a lookup; a scan, with the output lent.
+-- SECOND PART. What is asked, in the profile of a number: an insert or a delete, with any forecast lent with it; a lookup; a scan, with the
+-- output lent.
 pub data LentAsk : Type 0 where
-  Change : Request → Forecast → LentAsk
-  Lookup : ℕ → LentAsk
-  Scan : ℕ → List ℕ → LentAsk
+  Change : ℕ → Request → Forecast → LentAsk
+  Lookup : ℕ → ℕ → LentAsk
+  Scan : ℕ → ℕ → List ℕ → LentAsk
 
--- The events of the accepted requests, in order. Refused ones, one whose forecast check refuses among them, count for nothing and leave
--- the slots; so do lookups and scans.
+-- The events of the accepted requests, in order. Refused ones, one whose forecast check refuses and one whose profile is unknown among
+-- them, count for nothing and leave the slots; so do lookups and scans.
 abbrev pub lentEvents : List LentAsk → List ℕ → List Event
 lentEvents [] slots = []
-lentEvents (Change q F ∷ asks) slots =
-    let c : Called = request q slots F in
+lentEvents (Change profile q F ∷ asks) slots =
+    let c : Called = request profile q slots F in
     let rest : List Event = lentEvents asks (c .slots) in
-    if eqb (c .answer .number) 0 then eventOf q slots F ∷ rest else rest
-lentEvents (Lookup y ∷ asks) slots = lentEvents asks slots
-lentEvents (Scan a out ∷ asks) slots = lentEvents asks slots
+    if eqb (c .answer .number) 0 then eventOf profile q slots F ∷ rest else rest
+lentEvents (Lookup profile y ∷ asks) slots = lentEvents asks slots
+lentEvents (Scan profile a out ∷ asks) slots = lentEvents asks slots
 
+-- The numbers of the profiles that they were asked in.
+abbrev pub lentProfiles : List LentAsk → List ℕ → List ℕ
+lentProfiles [] slots = []
+lentProfiles (Change profile q F ∷ asks) slots =
+    let c : Called = request profile q slots F in
+    let rest : List ℕ = lentProfiles asks (c .slots) in
+    if eqb (c .answer .number) 0 then profile ∷ rest else rest
+lentProfiles (Lookup profile y ∷ asks) slots = lentProfiles asks slots
+lentProfiles (Scan profile a out ∷ asks) slots = lentProfiles asks slots
+
+-- Counting starts afresh after a change of profile: from the earlier sweep on, all that was accepted was asked in one profile.
 abbrev pub LentAgain : Type 0
-LentAgain = (slots : List ℕ) (asks : List LentAsk) (l s : ℕ) (e₀ : Event) (es : List Event) (e : Event)
-    → SweptAgain (lentEvents asks slots) l s e₀ es e → Taken (sharesOf slots) l s (counting e₀ es e)
+LentAgain = (profile : ℕ) (slots : List ℕ) (asks : List LentAsk) (l s : ℕ) (e₀ : Event) (es : List Event) (e : Event)
+    → All (λ m. m ≡ profile) (lentProfiles asks slots) → SweptAgain (lentEvents asks slots) l s e₀ es e
+    → Taken (sharesOf profile slots) l s (counting e₀ es e)

@@ -3,6 +3,7 @@ use Rattle.rules.specs.Demand1.{MakeTells, CheckTells, CheckPasses, Look
 use Rattle.rules.specs.Demand1.{RequestRefused, LookupRefused, ScanRefused, MakeRefused, RunRefused, RunStops, RunIsSingly, RunInTwo}
 use Rattle.rules.specs.Demand1.{RequestKeeps, RunKeeps}
 use Rattle.rules.specs.Demand2.{IsSet, SequenceAnswered, RequestRuled, SequenceRuled}
+use Rattle.rules.specs.Demand2Mixed.{MixedAnswered}
 use Rattle.rules.specs.Readings.{Table, TableLawful, SplitIs, NoZero, ClimbIs, InsertFinds, CellsAim}
 use Rattle.rules.specs.Demand3.{Inside, KeysKept, SizesKept, SweepsTold, Again}
 use Rattle.rules.specs.Demand3Lent.{LentInside, LentAgain}
@@ -37,6 +38,8 @@ pub record Demands : Type 0 where
   -- many keys as slots would answer.
   pub is-set : IsSet
   pub sequence-answered : SequenceAnswered
+  -- The same with a profile for each ask.
+  pub mixed-answered : MixedAnswered
   -- After each request the slots, the forecast and the reported moves are those of the paper's rules
   pub request-ruled : RequestRuled
   pub sequence-ruled : SequenceRuled

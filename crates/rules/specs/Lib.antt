@@ -1,4 +1,5 @@
 pub mod Refusals
+pub mod Profiles
 pub mod Shares
 pub mod Placing
 pub mod SharingOut
@@ -10,6 +11,7 @@ pub mod Rows
 pub mod Demand1
 pub mod PlainSet
 pub mod Demand2
+pub mod Demand2Mixed
 pub mod Readings
 pub mod History
 pub mod Demand3

@@ -66,7 +66,8 @@ cutFrom y ss = set ss (segmentOf ss y) (cut y (getD ss (segmentOf ss y) []))
 unfoldable pub chosen : Shares → ℕ → Segments → Option ℕ
 chosen S s ss = first (λ l. within S l (count l s ss)) 1 (S .height)
 
--- An insert sweeps where its segment does not hold under 64 keys (the high share of level 0); a delete where it now holds under 7 (the low).
+-- An insert sweeps where its segment does not hold under the high share of level 0 (64 keys; second profile: 58); a delete where it now
+-- holds under the low (7; 6).
 unfoldable pub insertLevel : Shares → ℕ → Segments → Option ℕ
 insertLevel S y ss = let level = chosen S (home y ss) (putIn y ss) in if ltb (length (getD ss (home y ss) [])) (S .high 0) then none else level
 
@@ -99,7 +100,8 @@ insertKey S y R =
     let cs : List Cell = noted (cellsOf S) (predecessor y ss) s (R .cells) in
     settled S s cs (putIn y ss) (length (above y (getD ss s [])) + 1) false (insertLevel S y ss)
 
--- Delete: drop the marker's cell if there is one. Moves = keys shifted, unless it sweeps. Sparse exactly when the list now holds under 13 × 2^h keys.
+-- Delete: drop the marker's cell if there is one. Moves = keys shifted, unless it sweeps. Sparse exactly when the list now holds under
+-- 13 × 2^h keys (second profile: 20 × 2^h).
 unfoldable pub deleteKey : Shares → ℕ → Room → Outcome
 deleteKey S y R =
     let ss : Segments = R .segments in

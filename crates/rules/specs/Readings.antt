@@ -9,6 +9,7 @@ use Rattle.lists.specs.Lists.{All, total}
 use Rattle.slots.specs.Segments.{Segments, keys}
 use Rattle.slots.specs.Windows.{count}
 use Rattle.slots.specs.Keys.{Listed, segmentOf}
+use Rattle.rules.specs.declared.Profile.{Profile}
 use Rattle.rules.specs.declared.Request.{Request}
 use Rattle.rules.specs.Shares.{Shares, Lawful, capacity, shares, highBy, lowBy}
 use Rattle.rules.specs.SharingOut.{Fraction, formula6, leftShare}
@@ -18,12 +19,12 @@ use Rattle.rules.specs.Placing.{Room, chosen, putIn, home, insertLevel, 
 abbrev pub Limits : Shares → ℕ → ℕ → ℕ → Type 0
 Limits S l k n = (2 ^ l * S .low k ≤ n) × (n ≤ 2 ^ l * S .high k)
 
--- THE TABLE is the two formulas, and its shares are lawful, at every height.
+-- THE TABLE is the two formulas of its profile, and its shares are lawful, at every height.
 abbrev pub Table : Type 0
-Table = (h l : ℕ) → 1 ≤ h → h ≤ 6 → l ≤ h → (shares h .high l ≡ highBy h l) × (shares h .low l ≡ lowBy h l)
+Table = (p : Profile) (h l : ℕ) → 1 ≤ h → h ≤ 6 → l ≤ h → (shares p h .high l ≡ highBy p h l) × (shares p h .low l ≡ lowBy p h l)
 
 abbrev pub TableLawful : Type 0
-TableLawful = (h : ℕ) → 1 ≤ h → h ≤ 6 → Lawful (shares h)
+TableLawful = (p : Profile) (h : ℕ) → 1 ≤ h → h ≤ 6 → Lawful (shares p h)
 
 -- THE SPLIT of a window of level l + 1. Fractions by cross products.
 abbrev pub AtMost : Fraction → Fraction → Type 0

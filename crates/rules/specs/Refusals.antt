@@ -1,11 +1,12 @@
--- Document 01, "Refusal numbers": the number of each refusal, and 0 where nothing is refused.
+-- Document 01, "Refusal numbers", and document 02: the number of each refusal, and 0 where nothing is refused.
 use Prim.Native.Nat.{ℕ}
 use Rattle.rules.specs.declared.Refusal.{Refusal}
-use Rattle.rules.specs.declared.Refusal.the-variants.{WrongLength, WrongOrder, TooManyKeys, WrongForecast, KeyZero, KeyPresent, KeyAbsent, Full, BadRecord, AllowancePassed}
+use Rattle.rules.specs.declared.Refusal.the-variants.{UnknownProfile, WrongLength, WrongOrder, TooManyKeys, WrongForecast, KeyZero, KeyPresent, KeyAbsent, Full, BadRecord, AllowancePassed}
 use Rattle.rules.specs.declared.Verdict.{Verdict}
 use Rattle.rules.specs.declared.Verdict.the-variants.{Refused, Accepted}
 
 abbrev pub refusalNumber : Refusal → ℕ
+refusalNumber UnknownProfile = 15
 refusalNumber WrongLength = 1
 refusalNumber WrongOrder = 2
 refusalNumber TooManyKeys = 3

@@ -1,4 +1,4 @@
--- Document 01, "Refusal numbers, in order of testing": each row in words about single slots, cells and bytes.
+-- Document 01, "Refusal numbers, in order of testing", and document 02's 15: each row in words about single slots, cells and bytes.
 use Prim.Native.Nat.{ℕ, _+_, _*_, _/_, _^_, _≤_, _<_}
 use mathlib.Core.Path.{_≡_}
 use mathlib.Core.Logic.{_⊎_, _≢_}
@@ -10,6 +10,7 @@ use Rattle.cells.specs.declared.Cell.{Cell}
 use Rattle.cells.specs.Cells.{zeroCell}
 use Rattle.forecast.specs.declared.Forecast.{Forecast}
 use Rattle.forecast.specs.Cells.{cells}
+use Rattle.rules.specs.Profiles.{profileOf, most}
 use Rattle.rules.specs.Runs.{requestOf}
 use Rattle.rules.specs.Calls.{request, Worked}
 
@@ -28,6 +29,10 @@ abbrev pub NoneOf : List Row → Type 0
 NoneOf [] = Unit {0}
 NoneOf (r ∷ rs) = (¬ (r .when)) × NoneOf rs
 
+-- 15: unknown profile, tested first of all.
+abbrev pub row15 : ℕ → Row
+row15 profile = record { no = 15; when = (profile ≢ 1) × (profile ≢ 2) }
+
 -- 1: length is not 64 × 2^h, h from 1 to 6.
 abbrev pub row1 : List ℕ → Row
 row1 slots = record { no = 1; when = (h : ℕ) → 1 ≤ h → h ≤ 6 → length slots ≢ 64 * 2 ^ h }
@@ -42,9 +47,9 @@ AfterGapAt slots i j = (i < j) × (i / 64 ≡ j / 64) × (slotAt slots i ≡ 0) 
 abbrev pub row2 : List ℕ → Row
 row2 slots = record { no = 2; when = ((i : ℕ) × (j : ℕ) × NotRisingAt slots i j) ⊎ ((i : ℕ) × (j : ℕ) × AfterGapAt slots i j) }
 
--- 3: over 32 × 2^h keys.
-abbrev pub row3 : List ℕ → Row
-row3 slots = record { no = 3; when = (h : ℕ) × (length slots ≡ 64 * 2 ^ h) × (32 * 2 ^ h < length (live slots)) }
+-- 3: over 32 × 2^h keys; in the second profile over 44 × 2^h.
+abbrev pub row3 : ℕ → List ℕ → Row
+row3 profile slots = record { no = 3; when = (h : ℕ) × (length slots ≡ 64 * 2 ^ h) × (most (profileOf profile) * 2 ^ h < length (live slots)) }
 
 -- 4: the forecast uses over P cells; or a used cell's count is not 1 to P, its marker is another's or neither 0 nor live, or its segment
 -- is wrong; or an unused cell is not all zeros.
@@ -88,9 +93,9 @@ row6 slots y = record { no = 6; when = PresentIn slots y }
 abbrev pub row7 : List ℕ → ℕ → Row
 row7 slots y = record { no = 7; when = ¬ (PresentIn slots y) }
 
--- 8: insert: list already holds 32 × 2^h keys.
-abbrev pub row8 : List ℕ → Row
-row8 slots = record { no = 8; when = (h : ℕ) × (length slots ≡ 64 * 2 ^ h) × (32 * 2 ^ h ≤ length (live slots)) }
+-- 8: insert: list already holds 32 × 2^h keys; in the second profile 44 × 2^h.
+abbrev pub row8 : ℕ → List ℕ → Row
+row8 profile slots = record { no = 8; when = (h : ℕ) × (length slots ≡ 64 * 2 ^ h) × (most (profileOf profile) * 2 ^ h ≤ length (live slots)) }
 
 -- 9: run: short record, wrong mark or wrong kind, at byte place p.
 pub data BadRecord (bytes : List ℕ) (p : ℕ) : Type 0 where
@@ -103,33 +108,33 @@ abbrev pub row9 : List ℕ → ℕ → Row
 row9 bytes p = record { no = 9; when = (p < length bytes) × BadRecord bytes p }
 
 -- 10: run: allowance would be passed. W is what the run has done before the record at its place.
-abbrev pub row10 : List ℕ → ℕ → Worked → Row
-row10 bytes allowance W = record {
+abbrev pub row10 : ℕ → List ℕ → ℕ → Worked → Row
+row10 profile bytes allowance W = record {
   no = 10;
   when =
       (W .reply .tally .place < length bytes)
-      × (allowance < W .reply .tally .moves + request (requestOf (drop (W .reply .tally .place) bytes)) (W .slots) (W .forecast) .answer .moves);
+      × (allowance < W .reply .tally .moves + request profile (requestOf (drop (W .reply .tally .place) bytes)) (W .slots) (W .forecast) .answer .moves);
 }
 
 -- THE ROWS OF EACH CALL, in order of testing: of the list, of list and forecast, then the call's own.
-abbrev pub listRows : List ℕ → List Row
-listRows slots = row1 slots ∷ row2 slots ∷ row3 slots ∷ []
+abbrev pub listRows : ℕ → List ℕ → List Row
+listRows profile slots = row15 profile ∷ row1 slots ∷ row2 slots ∷ row3 profile slots ∷ []
 
-abbrev pub bothRows : List ℕ → Forecast → List Row
-bothRows slots F = listRows slots ++ (row4 slots F ∷ [])
+abbrev pub bothRows : ℕ → List ℕ → Forecast → List Row
+bothRows profile slots F = listRows profile slots ++ (row4 slots F ∷ [])
 
-abbrev pub lookupRows : List ℕ → ℕ → List Row
-lookupRows slots y = listRows slots ++ (row5 y ∷ [])
+abbrev pub lookupRows : ℕ → List ℕ → ℕ → List Row
+lookupRows profile slots y = listRows profile slots ++ (row5 y ∷ [])
 
-abbrev pub insertRows : List ℕ → Forecast → ℕ → List Row
-insertRows slots F y = bothRows slots F ++ (row5 y ∷ row6 slots y ∷ row8 slots ∷ [])
+abbrev pub insertRows : ℕ → List ℕ → Forecast → ℕ → List Row
+insertRows profile slots F y = bothRows profile slots F ++ (row5 y ∷ row6 slots y ∷ row8 profile slots ∷ [])
 
-abbrev pub deleteRows : List ℕ → Forecast → ℕ → List Row
-deleteRows slots F y = bothRows slots F ++ (row5 y ∷ row7 slots y ∷ [])
+abbrev pub deleteRows : ℕ → List ℕ → Forecast → ℕ → List Row
+deleteRows profile slots F y = bothRows profile slots F ++ (row5 y ∷ row7 slots y ∷ [])
 
 -- The rows by which a run stops, and all of a run's; W is what it did before its place.
-abbrev pub stopRows : List ℕ → ℕ → Worked → List Row
-stopRows bytes allowance W = row9 bytes (W .reply .tally .place) ∷ row10 bytes allowance W ∷ []
+abbrev pub stopRows : ℕ → List ℕ → ℕ → Worked → List Row
+stopRows profile bytes allowance W = row9 bytes (W .reply .tally .place) ∷ row10 profile bytes allowance W ∷ []
 
-abbrev pub runRows : List ℕ → Forecast → List ℕ → ℕ → Worked → List Row
-runRows slots F bytes allowance W = bothRows slots F ++ stopRows bytes allowance W
+abbrev pub runRows : ℕ → List ℕ → Forecast → List ℕ → ℕ → Worked → List Row
+runRows profile slots F bytes allowance W = bothRows profile slots F ++ stopRows profile bytes allowance W

@@ -1,4 +1,4 @@
--- Document 01, "Sums to check", 1 to 9: what is done, and the numbers that the document gives for it.
+-- Document 01, "Sums to check", 1 to 9: what is done, and the numbers that the document gives for it, in the first profile.
 use Prim.Native.Nat.{ℕ, zero, suc, _-_}
 use mathlib.Core.Path.{_≡_}
 use mathlib.Core.List.{List, [], _∷_, _++_, map, List·Memᴰ as Mem}
@@ -6,9 +6,11 @@ use lib.ListN.{length, replicate}
 use Rattle.slots.specs.Segments.{Segments}
 use Rattle.cells.specs.declared.Cell.{Cell}
 use Rattle.cells.specs.Cells.{cell, weight}
+use Rattle.rules.specs.declared.Profile.{Profile}
+use Rattle.rules.specs.declared.Profile.the-variants.{First}
 use Rattle.rules.specs.declared.Request.{Request}
 use Rattle.rules.specs.declared.Request.the-variants.{Insert, Delete}
-use Rattle.rules.specs.Shares.{shares}
+use Rattle.rules.specs.Shares.{Shares, shares}
 use Rattle.rules.specs.SharingOut.{shareOut}
 use Rattle.rules.specs.Placing.{Room, Outcome, refusedBy, outcome}
 use Rattle.rules.specs.Runs.{one}
@@ -31,9 +33,9 @@ pub data Case : Type 0 where
   -- keys shared out over a whole list of height h, by a forecast, and the counts of the segments
   Shared : ℕ → List Cell → List ℕ → List ℕ → Case
 
-abbrev pub last : ℕ → List Request → Outcome → Outcome
-last h [] o = o
-last h (q ∷ qs) o = last h qs (outcome (shares h) q (o .room))
+abbrev pub last : Shares → List Request → Outcome → Outcome
+last S [] o = o
+last S (q ∷ qs) o = last S qs (outcome S q (o .room))
 
 -- The counts of the segments; the last request's number, moves and sparse; the number of cells; the front's count.
 abbrev pub seen : Outcome → List ℕ
@@ -41,9 +43,10 @@ seen o =
     map length (o .room .segments)
     ++ (o .answer .number ∷ o .answer .moves ∷ one (o .answer .sparse) ∷ length (o .room .cells) ∷ weight (o .room .cells) 0 ∷ [])
 
-abbrev pub gives : Case → List ℕ
-gives (Requested h R qs ns) = seen (last h qs (refusedBy 0 R))
-gives (Shared h cs ks ns) = map length (shareOut (shares h) (weight cs) (weight cs 0) h ks)
+-- What a case gives in a profile, and what it says.
+abbrev pub gives : Profile → Case → List ℕ
+gives p (Requested h R qs ns) = seen (last (shares p h) qs (refusedBy 0 R))
+gives p (Shared h cs ks ns) = map length (shareOut (shares p h) (weight cs) (weight cs 0) h ks)
 
 abbrev pub says : Case → List ℕ
 says (Requested h R qs ns) = ns
@@ -94,4 +97,4 @@ abbrev pub cases : List Case
 cases = sum1 ++ (sum2 ++ (sum3 ++ (sum4 ++ (sum5 ++ (sum6 ++ (sum7 ++ (sum8 ++ sum9)))))))
 
 abbrev pub Sums : Type 0
-Sums = (c : Case) → Mem c cases → gives c ≡ says c
+Sums = (c : Case) → Mem c cases → gives First c ≡ says c

@@ -1,7 +1,14 @@
-// Document 01 as definitions, in specs/, and their theorems, in proofs/. No code.
+// Document 01, and the requests of document 02 that are built, as definitions, in specs/, and their theorems, in proofs/. No code.
 
-// Why a call, a request or a record is refused: a variant for each of document 01's numbers, 1 to 10 in this order.
+// Which shares a list keeps to: document 01's, or those of document 02, (v). Outside it is a number, 1 or 2.
+pub enum Profile {
+    First,
+    Second,
+}
+
+// Why a call, a request or a record is refused: a variant for each number of the documents, in order of testing: 15, then 1 to 10.
 pub enum Refusal {
+    UnknownProfile,
     WrongLength,
     WrongOrder,
     TooManyKeys,

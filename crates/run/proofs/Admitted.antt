@@ -23,11 +23,11 @@ use Rattle.run.proofs.Readings.{added-nothing}
 abbrev runOf : Totals → steps.Worked → Run
 runOf T r = record { reply = record { forecast = r .forecast; tally = r .tally; stop = r .stop }; totals = added T (r .tally) }
 
-module _ (slots : List ℕ) (F : Forecast) (bytes : List ℕ) (allowance : ℕ) (T : Totals) (r : steps.Worked) (left : List ℕ) where
+module _ (profile : ℕ) (slots : List ℕ) (F : Forecast) (bytes : List ℕ) (allowance : ℕ) (T : Totals) (r : steps.Worked) (left : List ℕ) where
   -- refused by its check: nothing is added
-  run-stopped : Reading T → check slots F ≢ 0 → Refuses slots F r left → RunAdmits slots F bytes allowance T (runOf T r) left
+  run-stopped : Reading T → check profile slots F ≢ 0 → Refuses profile slots F r left → RunAdmits profile slots F bytes allowance T (runOf T r) left
   run-stopped h n e =
-      let w : run slots F bytes allowance T ≡ stoppedAtOnce slots F T (check slots F) = run-refused slots F bytes allowance T n in
+      let w : run profile slots F bytes allowance T ≡ stoppedAtOnce slots F T (check profile slots F) = run-refused profile slots F bytes allowance T n in
       record {
         tally = e .tally ∙ sym (ap (λ (z : Worked). z .reply .tally) w);
         stop = e .stop ∙ sym (ap (λ (z : Worked). z .reply .stop) w);
@@ -37,9 +37,9 @@ module _ (slots : List ℕ) (F : Forecast) (bytes : List ℕ) (allowance : ℕ) 
       }
 
   -- or it works the records
-  run-ended : check slots F ≡ 0 → Ends slots F bytes allowance r left → RunAdmits slots F bytes allowance T (runOf T r) left
+  run-ended : check profile slots F ≡ 0 → Ends profile slots F bytes allowance r left → RunAdmits profile slots F bytes allowance T (runOf T r) left
   run-ended c e =
-      let w : run slots F bytes allowance T ≡ worked T (whole slots F bytes allowance) = run-checked slots F bytes allowance T c in
+      let w : run profile slots F bytes allowance T ≡ worked T (whole profile slots F bytes allowance) = run-checked profile slots F bytes allowance T c in
       record {
         tally = e .tally ∙ sym (ap (λ (z : Worked). z .reply .tally) w);
         stop = e .stop ∙ sym (ap (λ (z : Worked). z .reply .stop) w);
@@ -48,9 +48,9 @@ module _ (slots : List ℕ) (F : Forecast) (bytes : List ℕ) (allowance : ℕ) 
         slots-left = e .slots-left ∙ sym (ap (λ (z : Worked). z .slots) w);
       }
 
-  pub run-opened : Reading T → Opens slots F bytes allowance r left → RunAdmits slots F bytes allowance T (runOf T r) left
+  pub run-opened : Reading T → Opens profile slots F bytes allowance r left → RunAdmits profile slots F bytes allowance T (runOf T r) left
   run-opened h o =
-      elim (decLt 0 (check slots F)) [
-        | yes p ↦ (let n : check slots F ≢ 0 = omega arith in run-stopped h n (o .refused n))
-        | no p ↦ (let c : check slots F ≡ 0 = omega arith in run-ended c (o .ended c))
+      elim (decLt 0 (check profile slots F)) [
+        | yes p ↦ (let n : check profile slots F ≢ 0 = omega arith in run-stopped h n (o .refused n))
+        | no p ↦ (let c : check profile slots F ≡ 0 = omega arith in run-ended c (o .ended c))
       ]

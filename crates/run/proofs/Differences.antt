@@ -17,10 +17,10 @@ use Rattle.steps.specs.Works.{whole}
 use Rattle.run.specs.Differences.{Differs, RunDiffers}
 use Rattle.run.proofs.Readings.{cutTally, since-added, since-same}
 
-module _ (slots : List ℕ) (F : Forecast) (bytes : List ℕ) (allowance : ℕ) (T : Totals) (r : Run) (left : List ℕ)
-    (a : RunAdmits slots F bytes allowance T r left) where
+module _ (profile : ℕ) (slots : List ℕ) (F : Forecast) (bytes : List ℕ) (allowance : ℕ) (T : Totals) (r : Run) (left : List ℕ)
+    (a : RunAdmits profile slots F bytes allowance T r left) where
   -- by what the run of the rules comes to, and what that adds to the totals
-  differs : (W : Worked) → run slots F bytes allowance T ≡ W → since (W .totals) T ≡ cutTally (W .reply .tally) → Differs r (since (r .totals) T)
+  differs : (W : Worked) → run profile slots F bytes allowance T ≡ W → since (W .totals) T ≡ cutTally (W .reply .tally) → Differs r (since (r .totals) T)
   differs W w e =
       let d : since (r .totals) T ≡ cutTally (r .reply .tally) =
       ap (λ (z : Totals). since z T) (a .totals ∙ ap (λ (z : Worked). z .totals) w) ∙ e ∙ sym (ap cutTally (a .tally ∙ ap (λ (z : Worked). z .reply .tally) w)) in
@@ -32,13 +32,13 @@ module _ (slots : List ℕ) (F : Forecast) (bytes : List ℕ) (allowance : ℕ) 
       }
 
 pub run-differs : RunDiffers
-run-differs slots F bytes allowance T r left h a =
-    elim (decLt 0 (check slots F)) [
+run-differs profile slots F bytes allowance T r left h a =
+    elim (decLt 0 (check profile slots F)) [
       | yes p ↦
-          let n : check slots F ≢ 0 = omega arith in
-          differs slots F bytes allowance T r left a (stoppedAtOnce slots F T (check slots F)) (run-refused slots F bytes allowance T n) (since-same T h)
+          let n : check profile slots F ≢ 0 = omega arith in
+          differs profile slots F bytes allowance T r left a (stoppedAtOnce slots F T (check profile slots F)) (run-refused profile slots F bytes allowance T n) (since-same T h)
       | no p ↦
-          let c : check slots F ≡ 0 = omega arith in
-          differs slots F bytes allowance T r left a (worked T (whole slots F bytes allowance)) (run-checked slots F bytes allowance T c)
-          (since-added T (whole slots F bytes allowance .tally) h)
+          let c : check profile slots F ≡ 0 = omega arith in
+          differs profile slots F bytes allowance T r left a (worked T (whole profile slots F bytes allowance)) (run-checked profile slots F bytes allowance T c)
+          (since-added T (whole profile slots F bytes allowance .tally) h)
     ]

@@ -8,9 +8,9 @@ use Rattle.rules.proofs.Refusals.Told.{verdict-told}
 use Rattle.run.specs.declared.Run.{Run}
 use Rattle.run.specs.Admits.{RunAdmits}
 
-module _ (slots : List ℕ) (F : Forecast) (bytes : List ℕ) (allowance : ℕ) (T : Totals) where
+module _ (profile : ℕ) (slots : List ℕ) (F : Forecast) (bytes : List ℕ) (allowance : ℕ) (T : Totals) where
   pub run-one : (r r′ : Run) (left left′ : List ℕ)
-      → RunAdmits slots F bytes allowance T r left → RunAdmits slots F bytes allowance T r′ left′ → (r ≡ r′) × (left ≡ left′)
+      → RunAdmits profile slots F bytes allowance T r left → RunAdmits profile slots F bytes allowance T r′ left′ → (r ≡ r′) × (left ≡ left′)
   run-one r r′ left left′ a b = (
     λ i. record {
       reply = record {

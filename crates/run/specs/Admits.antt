@@ -8,10 +8,10 @@ use Rattle.rules.specs.Refusals.{verdictNumber}
 use Rattle.rules.specs.Calls as rules
 use Rattle.run.specs.declared.Run.{Run}
 
--- the slots, forecast, bytes, allowance and totals lent; what it returns; and the slots left
-pub record RunAdmits (slots : List ℕ) (F : Forecast) (bytes : List ℕ) (allowance : ℕ) (T : Totals) (r : Run) (left : List ℕ) : Type 0 where
-  pub tally : r .reply .tally ≡ rules.run slots F bytes allowance T .reply .tally
-  pub stop : verdictNumber (r .reply .stop) ≡ rules.run slots F bytes allowance T .reply .stop
-  pub forecast : r .reply .forecast ≡ rules.run slots F bytes allowance T .forecast
-  pub totals : r .totals ≡ rules.run slots F bytes allowance T .totals
-  pub slots-left : left ≡ rules.run slots F bytes allowance T .slots
+-- the profile's number, the slots, forecast, bytes, allowance and totals lent; what it returns; and the slots left
+pub record RunAdmits (profile : ℕ) (slots : List ℕ) (F : Forecast) (bytes : List ℕ) (allowance : ℕ) (T : Totals) (r : Run) (left : List ℕ) : Type 0 where
+  pub tally : r .reply .tally ≡ rules.run profile slots F bytes allowance T .reply .tally
+  pub stop : verdictNumber (r .reply .stop) ≡ rules.run profile slots F bytes allowance T .reply .stop
+  pub forecast : r .reply .forecast ≡ rules.run profile slots F bytes allowance T .forecast
+  pub totals : r .totals ≡ rules.run profile slots F bytes allowance T .totals
+  pub slots-left : left ≡ rules.run profile slots F bytes allowance T .slots

@@ -15,7 +15,7 @@ pub record Reading (T : Totals) : Type 0 where
   pub moved : T .moved < 2 ^ 32
   pub sweeps : T .sweeps < 2 ^ 32
 
--- The difference d of two readings round a run r is what its reply has counted, modulo 2^32: nothing where it is refused by 1 to 4.
+-- The difference d of two readings round a run r is what its reply has counted, modulo 2^32: nothing where it is refused by 15 or 1 to 4.
 pub record Differs (r : Run) (d : Totals) : Type 0 where
   pub worked : d .worked ≡ r .reply .tally .worked % 2 ^ 32
   pub refused : d .refused ≡ r .reply .tally .refused % 2 ^ 32
@@ -24,5 +24,5 @@ pub record Differs (r : Run) (d : Totals) : Type 0 where
 
 -- Of any outcome that a run's promise admits.
 abbrev pub RunDiffers : Type 0
-RunDiffers = (slots : List ℕ) (F : Forecast) (bytes : List ℕ) (allowance : ℕ) (T : Totals) (r : Run) (left : List ℕ) → Reading T
-    → RunAdmits slots F bytes allowance T r left → Differs r (since (r .totals) T)
+RunDiffers = (profile : ℕ) (slots : List ℕ) (F : Forecast) (bytes : List ℕ) (allowance : ℕ) (T : Totals) (r : Run) (left : List ℕ) → Reading T
+    → RunAdmits profile slots F bytes allowance T r left → Differs r (since (r .totals) T)

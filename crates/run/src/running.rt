@@ -8,15 +8,16 @@ use rules::Totals;
 
 // A run on anything that is lent.
 pub fn run_with(
+    profile: u64,
     list: &mut [u64],
     forecast: Forecast,
     requests: &[u8],
     allowance: u64,
     totals: Totals,
 ) -> Run
-    ensures { λ r. ⌜ RunAdmits (now (list .entry)) forecast (now (requests .entry)) allowance totals r (now (list .exit)) ⌝ }
+    ensures { λ r. ⌜ RunAdmits profile (now (list .entry)) forecast (now (requests .entry)) allowance totals r (now (list .exit)) ⌝ }
 {
-    let worked = opening::work_lent(list, forecast, requests, allowance);
+    let worked = opening::work_lent(profile, list, forecast, requests, allowance);
     let after = worked.forecast;
     let tally = worked.tally;
     let stop = worked.stop;

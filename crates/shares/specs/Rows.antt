@@ -3,7 +3,8 @@ use Prim.Native.Nat.{ℕ, _≤_, _<_}
 use mathlib.Core.Path.{_≡_}
 use mathlib.Core.List.{List}
 use lib.ListN.{length, replicate, getD}
-use Rattle.rules.specs.Shares.{Shares, capacity, sparseBelow, cellsOf}
+use Rattle.rules.specs.declared.Profile.the-variants.{First}
+use Rattle.rules.specs.Shares.{Shares, shares, capacity, sparseBelow, cellsOf}
 use Rattle.shares.specs.declared.Shape.{Shape}
 
 -- A row has a share for each level up to the whole array's.
@@ -15,6 +16,10 @@ pub record Row (height : ℕ) (share : ℕ → ℕ) (row : List ℕ) : Type 0 wh
 pub record Rows (S : Shares) (lows highs : List ℕ) : Type 0 where
   pub low : Row (S .height) (S .low) lows
   pub high : Row (S .height) (S .high) highs
+
+-- The shares that a shape keeps to, by its profile and height.
+abbrev pub sharesAt : Shape → Shares
+sharesAt k = shares (k .profile) (k .height)
 
 -- A shape fetched for shares S.
 pub record Fetched (S : Shares) (k : Shape) : Type 0 where
@@ -28,4 +33,4 @@ pub record Fetched (S : Shares) (k : Shape) : Type 0 where
 
 -- The shape of no list.
 abbrev pub blankShape : Shape
-blankShape = record { height = 0; cells = 0; capacity = 0; floor = 0; high = 0; low = 0; lows = replicate 7 0; highs = replicate 7 0 }
+blankShape = record { height = 0; cells = 0; capacity = 0; floor = 0; high = 0; low = 0; lows = replicate 7 0; highs = replicate 7 0; profile = First }

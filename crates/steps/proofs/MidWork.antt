@@ -24,20 +24,23 @@ use Rattle.rules.specs.declared.Tally.{Tally}
 use Rattle.rules.specs.Refusals.{verdictNumber}
 use Rattle.rules.specs.Shares.{Shares, shares}
 use Rattle.rules.specs.Placing.{Room, Outcome, outcome}
+use Rattle.rules.specs.Profiles.{numberOf}
 use Rattle.rules.specs.Checks.{sharesOf}
+use Rattle.rules.proofs.Sharing.Profiles.{profile-named}
 use Rattle.rules.specs.Calls.{roomOf}
 use Rattle.rules.specs.Runs.{requestOf, isBad, recordsOf, nothing, one, Ran, stopped, ran, work, tallied}
 use Rattle.rules.proofs.Running.Records.{records-nil, records-cons, short-bad, byte-of-record, record-of-byte}
 use Rattle.rules.proofs.Running.RequestsWorked.{work-end, work-bad, work-over, work-on}
 use Rattle.rules.proofs.Requests.Checked.{slots-shown, forecast-shown}
 use Rattle.shares.specs.declared.Shape.{Shape}
+use Rattle.shares.specs.Rows.{sharesAt}
 use Rattle.seats.specs.Bounds.{Indexed}
 use Rattle.aims.specs.declared.Aim.{Aim}
 use Rattle.aims.specs.Aims.{Stands, Aimed}
 use Rattle.aims.proofs.Standing.{keys-stand}
 use Rattle.steps.specs.declared.Worked.{Worked}
 use Rattle.tallies.specs.Counted.{isStop, isAccepted, comesTo, nextOf, keysOf}
-use Rattle.tallies.proofs.Verdicts.{told, stop-high, on-low, comes-over, comes-within}
+use Rattle.tallies.proofs.Verdicts.{told, stop-high, on-good, comes-over, comes-within}
 use Rattle.steps.specs.Works.{Turning, Turned, whole, Ends}
 use Rattle.steps.proofs.TurnOf.{low, bad-is, swept-turn}
 
@@ -59,24 +62,28 @@ pub record Now : Type 0 where
   pub last : Verdict
   pub tally : Tally
 
+-- the number of its profile
+abbrev number : Lent → ℕ
+number L = numberOf (L .shape .profile)
+
 abbrev all : Lent → Ran
-all L = whole (L .slots) (L .forecast) (L .bytes) (L .allowance)
+all L = whole (number L) (L .slots) (L .forecast) (L .bytes) (L .allowance)
 
 abbrev of : Lent → Shares
-of L = shares (L .shape .height)
+of L = sharesAt (L .shape)
 
 abbrev room : Now → Room
 room N = roomOf (N .slots) (N .forecast)
 
 -- the last verdict is that of a single record
 abbrev LastOf : Lent → Verdict → Type 0
-LastOf L last = (q : Request) → recordsOf (L .bytes) ≡ q ∷ [] → verdictNumber last ≡ outcome (sharesOf (L .slots)) q (roomOf (L .slots) (L .forecast)) .answer .number
+LastOf L last = (q : Request) → recordsOf (L .bytes) ≡ q ∷ [] → verdictNumber last ≡ outcome (sharesOf (number L) (L .slots)) q (roomOf (L .slots) (L .forecast)) .answer .number
 
 pub record Going (L : Lent) (N : Now) : Type 0 where
   pub stands : Stands (N .slots) (N .forecast) (L .shape) (N .keys)
   pub shown : forecastOf (usedCells (N .forecast)) ≡ N .forecast
   pub index : Indexed (segmentsOf (N .slots)) (N .slots) (N .bounds) (N .counts)
-  pub shares-lent : sharesOf (L .slots) ≡ of L
+  pub shares-lent : sharesOf (number L) (L .slots) ≡ of L
   pub in-bytes : N .tally .place ≤ length (L .bytes)
   pub worked : N .tally .worked ≤ N .tally .place
   pub refused : N .tally .refused ≤ N .tally .worked
@@ -94,15 +101,15 @@ pub going-start : (slots : List ℕ) (F : Forecast) (bytes : List ℕ) (allowanc
 unfolding ran
 going-start slots F bytes allowance k bounds counts n last s x r = record {
   stands = s;
-  shown = forecast-shown slots F (s .passes) r;
+  shown = forecast-shown (numberOf (k .profile)) slots F (s .passes) r;
   index = x;
-  shares-lent = ap {B = Shares} shares (s .height);
+  shares-lent = ap₂ {C = Shares} shares (profile-named (k .profile)) (s .height);
   in-bytes = omega arith;
   worked = omega arith;
   refused = omega arith;
   sweeps = omega arith;
   moves = omega arith;
-  rest = ap (λ (S : Shares). work S allowance (recordsOf bytes) (roomOf slots F) nothing) (ap {B = Shares} shares (s .height));
+  rest = ap (λ (S : Shares). work S allowance (recordsOf bytes) (roomOf slots F) nothing) (ap₂ {C = Shares} shares (profile-named (k .profile)) (s .height));
   first = λ _. (refl, refl);
   single = λ h. absurd (omega (arith, h));
 }
@@ -142,26 +149,26 @@ module _ {L : Lent} {N : Now} (g : Going L N) where
   -- where the work left is a stop, the run ends with what there is
   ended : (v : Verdict)
       → work (of L) (L .allowance) (recordsOf (drop (N .tally .place) (L .bytes))) (room N) (N .tally) ≡ stopped (verdictNumber v) (room N) (N .tally)
-      → (verdictNumber v ≡ 0 → LastOf L (N .last)) → Ends (L .slots) (L .forecast) (L .bytes) (L .allowance) (backAt N v) (N .slots)
+      → (verdictNumber v ≡ 0 → LastOf L (N .last)) → Ends (number L) (L .slots) (L .forecast) (L .bytes) (L .allowance) (backAt N v) (N .slots)
   ended v e last =
       let w : all L ≡ stopped (verdictNumber v) (room N) (N .tally) = g .rest ∙ e in
       record {
         tally = sym (ap (λ (r : Ran). r .tally) w);
         stop = sym (ap (λ (r : Ran). r .stop) w);
         forecast = sym (g .shown) ∙ sym (ap (λ (r : Ran). forecastOf (r .room .cells)) w);
-        slots-left = sym (slots-shown (N .slots) (N .forecast) (g .stands .passes)) ∙ sym (ap (λ (r : Ran). render 0 (r .room .segments)) w);
+        slots-left = sym (slots-shown (number L) (N .slots) (N .forecast) (g .stands .passes)) ∙ sym (ap (λ (r : Ran). render 0 (r .room .segments)) w);
         keys = sym (keys-stand (g .stands)) ∙ sym (ap (λ (r : Ran). length (keys (r .room .segments))) w);
         single = λ q one z. last (sym (ap (λ (r : Ran). r .stop) w) ∙ z) q one;
       }
 
   -- at the end of the bytes
-  pub ends-whole : length (L .bytes) ≤ N .tally .place → Ends (L .slots) (L .forecast) (L .bytes) (L .allowance) (backAt N Accepted) (N .slots)
+  pub ends-whole : length (L .bytes) ≤ N .tally .place → Ends (number L) (L .slots) (L .forecast) (L .bytes) (L .allowance) (backAt N Accepted) (N .slots)
   ends-whole p =
       ended Accepted
       (ap (λ (l : List Request). work (of L) (L .allowance) l (room N) (N .tally)) (ap recordsOf (drop-of-length-le (L .bytes) p) ∙ records-nil) ∙ work-end (of L) (L .allowance) (room N) (N .tally))
       (λ _ q e. last q e)
     where
-      last : (q : Request) → recordsOf (L .bytes) ≡ q ∷ [] → verdictNumber (N .last) ≡ outcome (sharesOf (L .slots)) q (roomOf (L .slots) (L .forecast)) .answer .number
+      last : (q : Request) → recordsOf (L .bytes) ≡ q ∷ [] → verdictNumber (N .last) ≡ outcome (sharesOf (number L) (L .slots)) q (roomOf (L .slots) (L .forecast)) .answer .number
       last q e =
           elim (decLe 11 (N .tally .place)) [
             | yes h ↦ g .single h q e
@@ -175,7 +182,7 @@ asks L N = requestOf (drop (N .tally .place) (L .bytes))
 pub record AtRecord (L : Lent) (N : Now) (r : Aim) : Type 0 where
   pub going : Going L N
   pub more : N .tally .place < length (L .bytes)
-  pub aimed : Aimed (shares (L .shape .height)) (asks L N) (roomOf (N .slots) (N .forecast)) r
+  pub aimed : Aimed (sharesAt (L .shape)) (asks L N) (roomOf (N .slots) (N .forecast)) r
 
 module _ {L : Lent} {N : Now} {r : Aim} (a : AtRecord L N r) where
   abbrev g : Going L N
@@ -199,7 +206,7 @@ module _ {L : Lent} {N : Now} {r : Aim} (a : AtRecord L N r) where
   nearer e = omega (arith, ap (λ (z : Tally). z .place) e, a .more)
 
   -- before a record that is over the allowance
-  ends-over : L .allowance - t .moves < r .moves → Ends (L .slots) (L .forecast) (L .bytes) (L .allowance) (backAt N (Refused AllowancePassed)) (N .slots)
+  ends-over : L .allowance - t .moves < r .moves → Ends (number L) (L .slots) (L .forecast) (L .bytes) (L .allowance) (backAt N (Refused AllowancePassed)) (N .slots)
   ends-over h =
       ended g (Refused AllowancePassed) (here ∙ work-over (of L) (L .allowance) q _ (room N) t good (omega (arith, h, a .aimed .moves, g .moves)))
       (λ e. absurd (omega (arith, e)))
@@ -212,7 +219,7 @@ module _ {L : Lent} {N : Now} {r : Aim} (a : AtRecord L N r) where
           ]
 
   -- at a bad record
-  ends-stop : isStop (r .verdict) ≡ true → Ends (L .slots) (L .forecast) (L .bytes) (L .allowance) (backAt N (r .verdict)) (N .slots)
+  ends-stop : isStop (r .verdict) ≡ true → Ends (number L) (L .slots) (L .forecast) (L .bytes) (L .allowance) (backAt N (r .verdict)) (N .slots)
   ends-stop e =
       elim (tested (isBad q)) [
         | inl b ↦
@@ -223,7 +230,7 @@ module _ {L : Lent} {N : Now} {r : Aim} (a : AtRecord L N r) where
 
   -- either way, where it halts the run
   pub ends-halt : isStop (comesTo (L .allowance - N .tally .moves) r) ≡ true
-      → Ends (L .slots) (L .forecast) (L .bytes) (L .allowance) (backAt N (comesTo (L .allowance - N .tally .moves) r)) (N .slots)
+      → Ends (number L) (L .slots) (L .forecast) (L .bytes) (L .allowance) (backAt N (comesTo (L .allowance - N .tally .moves) r)) (N .slots)
   ends-halt e =
       elim (decLt left (r .moves)) [
         | yes h ↦ subst Back (sym (comes-over left r h)) (ends-over h)
@@ -236,7 +243,7 @@ module _ {L : Lent} {N : Now} {r : Aim} (a : AtRecord L N r) where
       left = L .allowance - N .tally .moves
 
       Back : Verdict → Type 0
-      Back v = Ends (L .slots) (L .forecast) (L .bytes) (L .allowance) (backAt N v) (N .slots)
+      Back v = Ends (number L) (L .slots) (L .forecast) (L .bytes) (L .allowance) (backAt N v) (N .slots)
 
 -- else it goes on
 pub record OnRecord (L : Lent) (N : Now) (r : Aim) : Type 0 where
@@ -261,7 +268,7 @@ module _ {L : Lent} {N : Now} {r : Aim} (w : OnRecord L N r) where
   ok : T (not (isBad (asks L N)))
   ok =
       elim (tested (isBad (asks L N))) [
-        | inl b ↦ absurd (omega (arith, on-low (r .verdict) (w .on), a .aimed .number, ap (λ (z : Outcome). z .answer .number) (bad-is (of L) (asks L N) (room N) b)))
+        | inl b ↦ absurd (on-good (r .verdict) (w .on) (a .aimed .number ∙ ap (λ (z : Outcome). z .answer .number) (bad-is (of L) (asks L N) (room N) b)))
         | inr k ↦ k
       ]
 
@@ -286,7 +293,7 @@ module _ {L : Lent} {N : Now} {r : Aim} (w : OnRecord L N r) where
     omega (arith, small),
   )
 
-  counted : nextOf (N .tally) r ≡ tallied (outcome (shares (L .shape .height)) (asks L N) (roomOf (N .slots) (N .forecast))) (N .tally)
+  counted : nextOf (N .tally) r ≡ tallied (outcome (sharesAt (L .shape)) (asks L N) (roomOf (N .slots) (N .forecast))) (N .tally)
   counted = λ i. record {
     worked = N .tally .worked + 1;
     refused = N .tally .refused + one ((told (r .verdict) .1 ∙ ap (λ (k : ℕ). ltb 0 k) (a .aimed .number)) i);
@@ -307,7 +314,7 @@ module _ {L : Lent} {N : Now} {r : Aim} (w : OnRecord L N r) where
             ∙ ap (λ (S : Shares). outcome S p (roomOf (L .slots) (L .forecast)) .answer .number) (sym (a .going .shares-lent))
       ]
 
-  pub goes-on : {slots′ bounds′ counts′ : List ℕ} {F′ : Forecast} → Turned (outcome (shares (L .shape .height)) (asks L N) (roomOf (N .slots) (N .forecast))) slots′ F′ bounds′ counts′ (L .shape) (keysOf (N .keys) r)
+  pub goes-on : {slots′ bounds′ counts′ : List ℕ} {F′ : Forecast} → Turned (outcome (sharesAt (L .shape)) (asks L N) (roomOf (N .slots) (N .forecast))) slots′ F′ bounds′ counts′ (L .shape) (keysOf (N .keys) r)
       → Going L (record { slots = slots′; forecast = F′; bounds = bounds′; counts = counts′; keys = keysOf (N .keys) r; last = r .verdict; tally = nextOf (N .tally) r })
   goes-on d = record {
     stands = d .stands;

@@ -20,16 +20,20 @@ use Rattle.forecast.proofs.Laws.{used-forecastOf}
 use Rattle.rules.specs.declared.Verdict.the-variants.{Accepted}
 use Rattle.rules.specs.declared.Request.{Request}
 use Rattle.rules.specs.declared.Request.the-variants.{Insert, Delete, Bad}
+use Rattle.rules.specs.declared.Profile.{Profile}
+use Rattle.rules.specs.Profiles.{numberOf, profileOf}
 use Rattle.rules.specs.Shares.{Shares, shares, capacity}
 use Rattle.rules.specs.Placing.{Room, Outcome, refusedBy, settled, insertKey, deleteKey, outcome}
 use Rattle.rules.specs.Checks.{check}
 use Rattle.rules.specs.Calls.{roomOf}
 use Rattle.rules.specs.Runs.{isBad}
+use Rattle.rules.proofs.Sharing.Profiles.{profile-named, number-known}
 use Rattle.rules.proofs.Requests.Accepted.{refused-is, insert-accepts, delete-accepts, insert-accepted, delete-accepted}
 use Rattle.rules.proofs.Requests.Checked.{check-render, room-render, height-render}
 use Rattle.rules.proofs.Requests.StaysGood.{Good, good-next}
 use Rattle.rules.proofs.Requests.MoveBound.{length-insert, length-delete}
 use Rattle.shares.specs.declared.Shape.{Shape}
+use Rattle.shares.specs.Rows.{sharesAt}
 use Rattle.seats.specs.Bounds.{Indexed}
 use Rattle.aims.specs.declared.Aim.{Aim}
 use Rattle.records.specs.Asked.{asked}
@@ -40,6 +44,10 @@ use Rattle.tallies.specs.Counted.{isAccepted, keysOf}
 use Rattle.tallies.proofs.Verdicts.{accepted-is, refused-some}
 use Rattle.tallies.proofs.Counts.{keys-kept}
 use Rattle.steps.specs.Works.{Turning, Turned}
+
+-- a room that is good in a profile is good in the profile of its number
+good-named : (p : Profile) (h : ℕ) (R : Room) → Good (shares p h) R → Good (shares (profileOf (numberOf p)) h) R
+good-named p h R = subst (λ (x : Profile). Good (shares x h) R) (sym (profile-named p))
 
 -- THE NUMBER of a request: 9 of a bad one, with no moves, and at most 8 of any other
 abbrev Low : Outcome → Type 0
@@ -99,7 +107,7 @@ some-key S false y R n G e z f = omega (arith, length-delete S y R G z, e)
 
 module _ {slots : List ℕ} {F : Forecast} {bounds counts : List ℕ} {k : Shape} {q : Request} {n : ℕ} {r : Aim} (t : Turning slots F bounds counts k q n r) where
   abbrev S : Shares
-  S = shares (k .height)
+  S = sharesAt k
 
   abbrev R : Room
   R = roomOf slots F
@@ -159,11 +167,13 @@ module _ {slots : List ℕ} {F : Forecast} {bounds counts : List ℕ} {k : Shape
     turned-accepted {slots′ = slots′} {bounds′ = bounds′} {counts′ = counts′} {F′ = F′} d =
         let O : Room = outcomeOf slots F k r .room in
         let h = height-stands (t .stands) in
-        let room : roomOf slots′ F′ ≡ O = ap₂ roomOf (d .left .slots-left) (d .forecast) ∙ room-render (k .height) (h .0) (h .1) O good in
+        let P : Profile = k .profile in
+        let made = good-named P (k .height) O good in
+        let room : roomOf slots′ F′ ≡ O = ap₂ roomOf (d .left .slots-left) (d .forecast) ∙ room-render (numberOf P) (number-known P) (k .height) (h .0) (h .1) O made in
         record {
           stands = record {
-            passes = ap₂ check (d .left .slots-left) (d .forecast) ∙ check-render (k .height) (h .0) (h .1) O good;
-            height = ap (λ (l : List ℕ). heightOf (length l)) (d .left .slots-left) ∙ height-render (k .height) (h .0) (h .1) O good;
+            passes = ap₂ (check (numberOf P)) (d .left .slots-left) (d .forecast) ∙ check-render (numberOf P) (number-known P) (k .height) (h .0) (h .1) O made;
+            height = ap (λ (l : List ℕ). heightOf (length l)) (d .left .slots-left) ∙ height-render (numberOf P) (number-known P) (k .height) (h .0) (h .1) O made;
             shape = t .stands .shape;
             many = ap (λ (l : List ℕ). length (live l)) (d .left .slots-left)
                 ∙ ap (λ (l : List ℕ). length l) (live-render (O .segments) (good .proper .listed .live)) ∙ many;

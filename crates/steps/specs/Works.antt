@@ -12,8 +12,8 @@ use Rattle.rules.specs.Placing.{Outcome, outcome}
 use Rattle.rules.specs.Runs.{recordsOf, Ran, ran}
 use Rattle.rules.specs.Checks.{sharesOf}
 use Rattle.rules.specs.Calls.{roomOf}
-use Rattle.rules.specs.Shares.{shares}
 use Rattle.shares.specs.declared.Shape.{Shape}
+use Rattle.shares.specs.Rows.{sharesAt}
 use Rattle.seats.specs.Bounds.{Indexed}
 use Rattle.aims.specs.declared.Aim.{Aim}
 use Rattle.aims.specs.Aims.{Stands, Aimed}
@@ -24,7 +24,7 @@ pub record Turning (slots : List ℕ) (F : Forecast) (bounds counts : List ℕ) 
   pub stands : Stands slots F k n
   pub shown : forecastOf (usedCells F) ≡ F
   pub index : Indexed (segmentsOf slots) slots bounds counts
-  pub aimed : Aimed (shares (k .height)) q (roomOf slots F) r
+  pub aimed : Aimed (sharesAt k) q (roomOf slots F) r
 
 -- What it leaves stands again, with n keys, and shows what the rules leave.
 pub record Turned (o : Outcome) (slots : List ℕ) (F : Forecast) (bounds counts : List ℕ) (k : Shape) (n : ℕ) : Type 0 where
@@ -33,16 +33,16 @@ pub record Turned (o : Outcome) (slots : List ℕ) (F : Forecast) (bounds counts
   pub index : Indexed (segmentsOf slots) slots bounds counts
   pub room : roomOf slots F ≡ o .room
 
--- The run of the rules on what is lent.
-abbrev pub whole : List ℕ → Forecast → List ℕ → ℕ → Ran
-whole slots F bytes allowance = ran (sharesOf slots) allowance bytes (roomOf slots F)
+-- The run of the rules on what is lent, in the profile of a number.
+abbrev pub whole : ℕ → List ℕ → Forecast → List ℕ → ℕ → Ran
+whole profile slots F bytes allowance = ran (sharesOf profile slots) allowance bytes (roomOf slots F)
 
 -- What the records come to; of a single one that is not over the allowance, also its number and the keys then.
-pub record Ends (slots : List ℕ) (F : Forecast) (bytes : List ℕ) (allowance : ℕ) (r : Worked) (left : List ℕ) : Type 0 where
-  pub tally : r .tally ≡ whole slots F bytes allowance .tally
-  pub stop : verdictNumber (r .stop) ≡ whole slots F bytes allowance .stop
-  pub forecast : r .forecast ≡ forecastOf (whole slots F bytes allowance .room .cells)
-  pub slots-left : left ≡ render 0 (whole slots F bytes allowance .room .segments)
-  pub keys : r .keys ≡ length (keys (whole slots F bytes allowance .room .segments))
-  pub single : (q : Request) → recordsOf bytes ≡ q ∷ [] → whole slots F bytes allowance .stop ≡ 0
-      → verdictNumber (r .last) ≡ outcome (sharesOf slots) q (roomOf slots F) .answer .number
+pub record Ends (profile : ℕ) (slots : List ℕ) (F : Forecast) (bytes : List ℕ) (allowance : ℕ) (r : Worked) (left : List ℕ) : Type 0 where
+  pub tally : r .tally ≡ whole profile slots F bytes allowance .tally
+  pub stop : verdictNumber (r .stop) ≡ whole profile slots F bytes allowance .stop
+  pub forecast : r .forecast ≡ forecastOf (whole profile slots F bytes allowance .room .cells)
+  pub slots-left : left ≡ render 0 (whole profile slots F bytes allowance .room .segments)
+  pub keys : r .keys ≡ length (keys (whole profile slots F bytes allowance .room .segments))
+  pub single : (q : Request) → recordsOf bytes ≡ q ∷ [] → whole profile slots F bytes allowance .stop ≡ 0
+      → verdictNumber (r .last) ≡ outcome (sharesOf profile slots) q (roomOf slots F) .answer .number

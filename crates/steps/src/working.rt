@@ -2,6 +2,7 @@
 ghost use mathlib.Core.Path.{_≡_};
 ghost use lib.ListN.{length};
 ghost use Rattle.slots.specs.Segments.{segmentsOf};
+ghost use Rattle.rules.specs.Profiles.{numberOf};
 ghost use Rattle.seats.specs.Bounds.{Indexed};
 ghost use Rattle.aims.specs.Aims.{Stands};
 ghost use Rattle.steps.specs.Works.{Ends};
@@ -23,7 +24,7 @@ pub fn work(
     allowance: u64,
 ) -> Worked
     requires { ⌜ Stands (now list) forecast shape keys × Indexed (segmentsOf (now list)) (now list) (now bounds) (now counts) × (length (now plan) ≡ 64) ⌝ }
-    ensures { λ r. ⌜ Ends (now (list .entry)) forecast (now (requests .entry)) allowance r (now (list .exit)) ⌝ }
+    ensures { λ r. ⌜ Ends (numberOf (shape .profile)) (now (list .entry)) forecast (now (requests .entry)) allowance r (now (list .exit)) ⌝ }
 {
     let mut last = Verdict::Accepted;
     let mut tally = tallies::none();

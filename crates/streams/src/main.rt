@@ -1,4 +1,4 @@
-// Works the request streams of data/ through the run, each on a list of 256 slots made empty, and writes for each its name, the reply, the
+// Works the request streams of data/ through the run, in either profile and in none, each on a list of 256 slots made empty, and writes for each its name, the reply, the
 // four totals, their difference to the reading before the run, and the number that the check gives of what it left.
 use forecast::Forecast;
 use libc::STDOUT_FILENO;
@@ -34,7 +34,13 @@ fn tell(tally: Tally, stop: u64, totals: Totals, added: Totals, check: u64) {
 }
 
 // Works one stream and hands the forecast back.
-fn stream(name: &[u8], list: &mut [u64], forecast: Forecast, allowance: u64) -> Forecast {
+fn stream(
+    profile: u64,
+    name: &[u8],
+    list: &mut [u64],
+    forecast: Forecast,
+    allowance: u64,
+) -> Forecast {
     let mut input = io::large_buffer();
     let fd = os::open_read(name);
     let n = io::read_full(fd, &mut input);
@@ -44,10 +50,10 @@ fn stream(name: &[u8], list: &mut [u64], forecast: Forecast, allowance: u64) -> 
         moved: 4294967290,
         sweeps: 0,
     };
-    let done = run::running::run_with(list, forecast, &input[..n], allowance, before);
+    let done = run::running::run_with(profile, list, forecast, &input[..n], allowance, before);
     let reply = done.reply;
     let left = reply.forecast;
-    let answer = list::calls::check(list, left);
+    let answer = list::calls::check(profile, list, left);
     let check = telling::check_number(answer);
     text(name);
     let after = done.totals;
@@ -63,25 +69,27 @@ fn stream(name: &[u8], list: &mut [u64], forecast: Forecast, allowance: u64) -> 
 }
 
 // Works one stream on a list made empty.
-fn fresh(name: &[u8], allowance: u64) {
+fn fresh(profile: u64, name: &[u8], allowance: u64) {
     let mut slots = [0u64; 256];
-    let made = list::calls::make(&mut slots);
-    stream(name, &mut slots, made.forecast, allowance);
+    let made = list::calls::make(profile, &mut slots);
+    stream(profile, name, &mut slots, made.forecast, allowance);
 }
 
 fn main() {
-    fresh(b"empty", 1000);
-    fresh(b"short", 1000);
-    fresh(b"mark", 1000);
-    fresh(b"kind", 1000);
-    fresh(b"refused", 1000000);
-    fresh(b"moving", 55);
-    fresh(b"moving", 54);
+    fresh(1, b"empty", 1000);
+    fresh(1, b"short", 1000);
+    fresh(1, b"mark", 1000);
+    fresh(1, b"kind", 1000);
+    fresh(1, b"refused", 1000000);
+    fresh(1, b"moving", 55);
+    fresh(1, b"moving", 54);
+    fresh(2, b"moving", 1000);
     let mut slots = [0u64; 256];
-    let made = list::calls::make(&mut slots);
-    let left = stream(b"moving", &mut slots, made.forecast, 1000);
-    let again = stream(b"again", &mut slots, left, 1000);
-    stream(b"empty", &mut slots, again, 0);
+    let made = list::calls::make(1, &mut slots);
+    let left = stream(1, b"moving", &mut slots, made.forecast, 1000);
+    let again = stream(1, b"again", &mut slots, left, 1000);
+    stream(1, b"empty", &mut slots, again, 0);
+    stream(3, b"empty", &mut slots, again, 0);
     let mut wrong = [0u64; 255];
-    stream(b"moving", &mut wrong, again, 1000);
+    stream(1, b"moving", &mut wrong, again, 1000);
 }

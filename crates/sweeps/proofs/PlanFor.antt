@@ -18,12 +18,13 @@ use Rattle.cells.specs.declared.Cell.{Cell}
 use Rattle.cells.specs.Cells.{weight}
 use Rattle.forecast.specs.declared.Forecast.{Forecast}
 use Rattle.forecast.specs.Cells.{usedCells}
-use Rattle.rules.specs.Shares.{Shares, Lawful, shares}
+use Rattle.rules.specs.Shares.{Shares, Lawful}
 use Rattle.rules.specs.SharingOut.{plan}
 use Rattle.rules.specs.Placing.{frontWeight}
 use Rattle.rules.specs.Readings.{Limits}
 use Rattle.rules.specs.Calls.{roomOf}
 use Rattle.shares.specs.declared.Shape.{Shape}
+use Rattle.shares.specs.Rows.{sharesAt}
 use Rattle.stretches.specs.Marks.{Marked}
 use Rattle.stretches.specs.declared.Part.{Part}
 use Rattle.stretches.specs.Parts.{weightsIn, PartOf}
@@ -48,9 +49,9 @@ high-fits S L (suc l) p h = omega (arith, L .gaps l h)
 -- THE WINDOW that an accepted request sweeps
 module _ {slots : List ℕ} {F : Forecast} {bounds counts : List ℕ} {k : Shape} {r : Aim} (A : Acting slots F bounds counts k r) (level : 1 ≤ r .level) where
   abbrev S : Shares
-  S = shares (k .height)
+  S = sharesAt k
 
-  swept : Sweeps (shares (k .height)) (roomOf slots F) (r .grows) (r .key) (r .level) (r .segment)
+  swept : Sweeps (sharesAt k) (roomOf slots F) (r .grows) (r .key) (r .level) (r .segment)
   swept = acting-sweeps A level
 
   pub level-small : r .level ≤ 6
@@ -60,7 +61,7 @@ module _ {slots : List ℕ} {F : Forecast} {bounds counts : List ℕ} {k : Shape
   pub moves-are : r .moves ≡ count (r .level) (r .segment) (doneIn (r .grows) (r .key) (segmentsOf slots))
   moves-are = A .moves ∙ swept .moves
 
-  pub planned : (n : ℕ) → n ≡ 2 ^ r .level → WithinLimits (shares (k .height)) (r .level) n (r .moves)
+  pub planned : (n : ℕ) → n ≡ 2 ^ r .level → WithinLimits (sharesAt k) (r .level) n (r .moves)
   planned n e = record {
     lawful = lawful-stands (A .stands);
     height = height-stands (A .stands) .1;
@@ -126,7 +127,7 @@ module _ {slots : List ℕ} {F : Forecast} {bounds counts : List ℕ} {k : Shape
 
       -- with the front's weight the plan is asked for all of them
       module _ {front : ℕ} (weighs : front ≡ (if eqb first 0 then weight (usedCells N) 0 else 0)) where
-        front-is : front ≡ frontWeight (r .level) (r .segment) (cellsFor (shares (k .height)) (r .grows) (r .key) (roomOf slots F))
+        front-is : front ≡ frontWeight (r .level) (r .segment) (cellsFor (sharesAt k) (r .grows) (r .key) (roomOf slots F))
         front-is = weighs ∙ ap₂ (λ (j : ℕ) (cs : List Cell). if eqb j 0 then weight cs 0 else 0) first-start (noted .is)
 
         pub front-small : front ≤ 12
@@ -137,10 +138,10 @@ module _ {slots : List ℕ} {F : Forecast} {bounds counts : List ℕ} {k : Shape
             subst (λ (j : ℕ). PartOf ws at weights (wholeOf weights j front)) long (whole-part ws at weights front m (omega (arith, long, moves-few)) front-small)
 
         -- and what it gives is the plan of the rules
-        ws-are : ws ≡ map (weight (cellsFor (shares (k .height)) (r .grows) (r .key) (roomOf slots F))) (keys (window (r .level) (r .segment) (doneIn (r .grows) (r .key) (segmentsOf slots))))
+        ws-are : ws ≡ map (weight (cellsFor (sharesAt k) (r .grows) (r .key) (roomOf slots F))) (keys (window (r .level) (r .segment) (doneIn (r .grows) (r .key) (segmentsOf slots))))
         ws-are = ap₂ (λ (cs : List Cell) (ks : List ℕ). map (weight cs) ks) (noted .is) done
 
-        plan-is : {p : Part} (weights : List ℕ) → p ≡ wholeOf weights (r .moves) front → plan (shares (k .height)) (r .level) (p .front) (weightsIn ws p) ≡ planFor slots F k r
+        plan-is : {p : Part} (weights : List ℕ) → p ≡ wholeOf weights (r .moves) front → plan (sharesAt k) (r .level) (p .front) (weightsIn ws p) ≡ planFor slots F k r
         unfolding planFor
         plan-is weights e =
             ap (λ (q : Part). plan S (r .level) (q .front) (weightsIn ws q)) e
@@ -148,7 +149,7 @@ module _ {slots : List ℕ} {F : Forecast} {bounds counts : List ℕ} {k : Shape
             ∙ ap₂ (plan S (r .level)) front-is ws-are
 
         -- back in a buffer, it stands in front
-        pub plan-back : {p : Part} (weights last rest : List ℕ) → p ≡ wholeOf weights (r .moves) front → length last ≡ n → last ≡ plan (shares (k .height)) (r .level) (p .front) (weightsIn ws p)
+        pub plan-back : {p : Part} (weights last rest : List ℕ) → p ≡ wholeOf weights (r .moves) front → length last ≡ n → last ≡ plan (sharesAt k) (r .level) (p .front) (weightsIn ws p)
             → Planned slots F k r (last ++ rest)
         plan-back weights last rest e l q =
             take-append-le (2 ^ r .level) last rest (omega (arith, size)) ∙ take-all (2 ^ r .level) last (omega (arith, size)) ∙ q ∙ plan-is weights e

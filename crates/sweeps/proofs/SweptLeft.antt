@@ -26,7 +26,7 @@ use Rattle.slots.proofs.Carried.{window-fits, window-lent, window-put}
 use Rattle.cells.specs.declared.Cell.{Cell}
 use Rattle.cells.specs.Cells.{weight}
 use Rattle.forecast.specs.declared.Forecast.{Forecast}
-use Rattle.rules.specs.Shares.{Shares, shares}
+use Rattle.rules.specs.Shares.{Shares}
 use Rattle.rules.specs.SharingOut.{plan, shareOut}
 use Rattle.rules.specs.Placing.{Room, frontWeight, sweep}
 use Rattle.rules.specs.Readings.{Limits}
@@ -35,6 +35,7 @@ use Rattle.rules.proofs.Sharing.SharingOut.{length-plan, total-plan}
 use Rattle.rules.proofs.Sweeping.SweptWindow.{splice-set}
 use Rattle.rules.proofs.Requests.StaysGood.{Good, good-next}
 use Rattle.shares.specs.declared.Shape.{Shape}
+use Rattle.shares.specs.Rows.{sharesAt}
 use Rattle.seats.specs.Bounds.{Indexed, Bounded, Near}
 use Rattle.bounding.proofs.Kept.{Resown, indexed-swept}
 use Rattle.sowing.specs.Sown.{Planted}
@@ -50,7 +51,7 @@ module _ {slots bounds counts : List ℕ} {F : Forecast} {k : Shape} {r : Aim} (
   ss = segmentsOf slots
 
   abbrev S : Shares
-  S = shares (k .height)
+  S = sharesAt k
 
   abbrev R : Room
   R = roomOf slots F
@@ -68,7 +69,7 @@ module _ {slots bounds counts : List ℕ} {F : Forecast} {k : Shape} {r : Aim} (
   g = r .grows
 
   abbrev cs : List Cell
-  cs = cellsFor (shares (k .height)) (r .grows) (r .key) (roomOf slots F)
+  cs = cellsFor (sharesAt k) (r .grows) (r .key) (roomOf slots F)
 
   -- its segment, and the segments with the request done
   abbrev new : List ℕ
@@ -77,7 +78,7 @@ module _ {slots bounds counts : List ℕ} {F : Forecast} {k : Shape} {r : Aim} (
   abbrev ms : Segments
   ms = set (segmentsOf slots) (r .segment) (changed (r .grows) (r .key) (getD (segmentsOf slots) (r .segment) []))
 
-  acts : Sweeps (shares (k .height)) (roomOf slots F) (r .grows) (r .key) (r .level) (r .segment)
+  acts : Sweeps (sharesAt k) (roomOf slots F) (r .grows) (r .key) (r .level) (r .segment)
   acts = acting-sweeps A some
 
   pub level-low : r .level ≤ 6
@@ -172,9 +173,9 @@ module _ {slots bounds counts : List ℕ} {F : Forecast} {k : Shape} {r : Aim} (
     -- THE PLAN
     module _ (ns : List ℕ) (P : Planned slots F k r ns) where
       abbrev ws : List ℕ
-      ws = map (weight (cellsFor (shares (k .height)) (r .grows) (r .key) (roomOf slots F))) ks
+      ws = map (weight (cellsFor (sharesAt k) (r .grows) (r .key) (roomOf slots F))) ks
 
-      plan-is : take n ns ≡ plan (shares (k .height)) (r .level) (frontWeight (r .level) (r .segment) cs) ws
+      plan-is : take n ns ≡ plan (sharesAt k) (r .level) (frontWeight (r .level) (r .segment) cs) ws
       unfolding planFor
       plan-is =
           ap (λ (j : ℕ). take j ns) size ∙ P
@@ -189,7 +190,7 @@ module _ {slots bounds counts : List ℕ} {F : Forecast} {k : Shape} {r : Aim} (
       plan-total : total (take n ns) ≡ length ks
       plan-total = ap total plan-is ∙ total-plan S l (frontWeight l s cs) ws ∙ ws-long
 
-      limits : Limits (shares (k .height)) (r .level) (r .level) (length ws)
+      limits : Limits (sharesAt k) (r .level) (r .level) (length ws)
       limits = subst (Limits S l l) (ap (λ (z : Segments). length (keys (window l s z))) (acts .done) ∙ ap length keys-done ∙ sym ws-long) (acts .small .within)
 
       fits : (j : ℕ) → getD (take n ns) j 0 ≤ 64
@@ -246,7 +247,7 @@ module _ {slots bounds counts : List ℕ} {F : Forecast} {k : Shape} {r : Aim} (
         each = dealt-counts;
       }
 
-      good-left : Good (shares (k .height)) (outcomeOf slots F k r .room)
+      good-left : Good (sharesAt k) (outcomeOf slots F k r .room)
       good-left = good-next S (lawful-stands (A .stands)) (asked g y) R (good-stands (A .stands))
 
       module _ (last : List ℕ) (sown : last ≡ render 0 (deal (take n ns) (changed (r .grows) (r .key) (keys (segmentsOf (take (64 * f + 64 * n - 64 * f) (drop (64 * f) slots))))))) where

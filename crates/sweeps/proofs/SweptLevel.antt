@@ -20,7 +20,7 @@ use Rattle.cells.specs.Steps.{noted, dropped}
 use Rattle.forecast.specs.declared.Forecast.{Forecast}
 use Rattle.forecast.specs.Cells.{usedCells}
 use Rattle.rules.specs.declared.Request.the-variants.{Insert, Delete}
-use Rattle.rules.specs.Shares.{Shares, shares, cellsOf}
+use Rattle.rules.specs.Shares.{Shares, cellsOf}
 use Rattle.rules.specs.Placing.{Room, Outcome, home, putIn, cutFrom, chosen, insertLevel, deleteLevel, frontWeight, sweep, settled, insertKey, deleteKey, outcome}
 use Rattle.rules.specs.Readings.{Smallest}
 use Rattle.rules.specs.Calls.{roomOf}
@@ -30,6 +30,7 @@ use Rattle.rules.proofs.Sweeping.SweptWindow.{home-in, here-in, there-window}
 use Rattle.rules.proofs.Requests.StaysGood.{Good}
 use Rattle.rules.proofs.Requests.Accepted.{Inserts, insert-accepted, Deletes, delete-accepted}
 use Rattle.shares.specs.declared.Shape.{Shape}
+use Rattle.shares.specs.Rows.{sharesAt}
 use Rattle.marks.specs.Marking.{Marking}
 use Rattle.marks.proofs.Handed.{marking-insert, marking-delete}
 use Rattle.aims.specs.declared.Aim.{Aim}
@@ -147,8 +148,8 @@ module _ (S : Shares) (R : Room) (G : Good S R) (low : S .height ≤ 6) (y l : �
 
 -- AN ACCEPTED REQUEST that sweeps does
 pub acting-sweeps : {slots : List ℕ} {F : Forecast} {bounds counts : List ℕ} {k : Shape} {r : Aim} → Acting slots F bounds counts k r → 1 ≤ r .level
-    → Sweeps (shares (k .height)) (roomOf slots F) (r .grows) (r .key) (r .level) (r .segment)
+    → Sweeps (sharesAt k) (roomOf slots F) (r .grows) (r .key) (r .level) (r .segment)
 acting-sweeps {slots} {F} {k = k} {r = r} A level =
-    subst (Sweeps (shares (k .height)) (roomOf slots F) (r .grows) (r .key) (r .level)) (sym (A .accepts .segment))
-    (sweeps (shares (k .height)) (roomOf slots F) (good-stands (A .stands)) (height-stands (A .stands) .1) (r .key) (r .level) (r .grows) (A .accepts .accepted)
+    subst (Sweeps (sharesAt k) (roomOf slots F) (r .grows) (r .key) (r .level)) (sym (A .accepts .segment))
+    (sweeps (sharesAt k) (roomOf slots F) (good-stands (A .stands)) (height-stands (A .stands) .1) (r .key) (r .level) (r .grows) (A .accepts .accepted)
     (A .accepts .level ∙ sym (level-some (r .level) level)))

@@ -13,11 +13,12 @@ use Rattle.cells.specs.Steps.{noted, dropped}
 use Rattle.forecast.specs.declared.Forecast.{Forecast}
 use Rattle.forecast.specs.Cells.{forecastOf}
 use Rattle.forecast.specs.Tidy.{Became}
-use Rattle.rules.specs.Shares.{Shares, shares, cellsOf}
+use Rattle.rules.specs.Shares.{Shares, cellsOf}
 use Rattle.rules.specs.SharingOut.{plan}
 use Rattle.rules.specs.Placing.{Room, Outcome, home, putIn, cutFrom, frontWeight, outcome}
 use Rattle.rules.specs.Calls.{roomOf}
 use Rattle.shares.specs.declared.Shape.{Shape}
+use Rattle.shares.specs.Rows.{sharesAt}
 use Rattle.seats.specs.Bounds.{Indexed}
 use Rattle.aims.specs.declared.Aim.{Aim}
 use Rattle.records.specs.Asked.{asked}
@@ -34,25 +35,25 @@ doneIn false y ss = cutFrom y ss
 
 -- What the request comes to by the rules.
 abbrev pub outcomeOf : List ℕ → Forecast → Shape → Aim → Outcome
-outcomeOf slots F k r = outcome (shares (k .height)) (asked (r .grows) (r .key)) (roomOf slots F)
+outcomeOf slots F k r = outcome (sharesAt k) (asked (r .grows) (r .key)) (roomOf slots F)
 
 -- List and forecast pass the check, bounds and counts are at hand, and the request is accepted.
 pub record Acting (slots : List ℕ) (F : Forecast) (bounds counts : List ℕ) (k : Shape) (r : Aim) : Type 0 where
   pub keys : ℕ
   pub stands : Stands slots F k keys
   pub index : Indexed (segmentsOf slots) slots bounds counts
-  pub accepts : Accepts (shares (k .height)) (roomOf slots F) r
+  pub accepts : Accepts (sharesAt k) (roomOf slots F) r
   pub moves : r .moves ≡ outcomeOf slots F k r .answer .moves
 
 -- N is the forecast with the request noted.
 abbrev pub Noted : List ℕ → Forecast → Shape → Aim → Forecast → Type 0
-Noted slots F k r N = Became (cellsFor (shares (k .height)) (r .grows) (r .key) (roomOf slots F)) N
+Noted slots F k r N = Became (cellsFor (sharesAt k) (r .grows) (r .key) (roomOf slots F)) N
 
 -- How many keys each segment of the swept window gets.
 unfoldable pub planFor : List ℕ → Forecast → Shape → Aim → List ℕ
 planFor slots F k r =
-    let cs : List Cell = cellsFor (shares (k .height)) (r .grows) (r .key) (roomOf slots F) in
-    plan (shares (k .height)) (r .level) (frontWeight (r .level) (r .segment) cs)
+    let cs : List Cell = cellsFor (sharesAt k) (r .grows) (r .key) (roomOf slots F) in
+    plan (sharesAt k) (r .level) (frontWeight (r .level) (r .segment) cs)
     (map (weight cs) (keys (window (r .level) (r .segment) (doneIn (r .grows) (r .key) (segmentsOf slots)))))
 
 abbrev pub Planned : List ℕ → Forecast → Shape → Aim → List ℕ → Type 0

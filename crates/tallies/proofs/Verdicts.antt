@@ -1,17 +1,23 @@
--- Verdicts by their numbers: over 8 a verdict stops the run, over 0 it is a refusal. And what a request comes to within the moves that are left.
+-- Verdicts by their numbers: 9 and 10 stop the run, over 0 it is a refusal. And what a request comes to within the moves that are left.
 use mathlib.Core.Path.{_≡_, refl, sym, ap, _∙_, subst}
-use mathlib.Core.Bool.{Bool, true, false, not}
+use mathlib.Core.Bool.{Bool, true, false, not, _&&_}
 use Prim.Native.Nat.{ℕ, _≤_, _<_}
-use lib.Dec.{T, ltb, ltb→lt, nltb→le}
+use mathlib.Core.Logic.{_≢_}
+use lib.Dec.{T, ltb, ltb→lt}
 use borrow.Author.Tests.{lt-ltb, le-ltb}
-use Rattle.rules.specs.declared.Refusal.the-variants.{WrongLength, WrongOrder, TooManyKeys, WrongForecast, KeyZero, KeyPresent, KeyAbsent, Full, BadRecord, AllowancePassed}
+use Rattle.lists.proofs.Tests.{and-left}
+use Rattle.rules.specs.declared.Refusal.the-variants.{UnknownProfile, WrongLength, WrongOrder, TooManyKeys, WrongForecast, KeyZero, KeyPresent, KeyAbsent, Full, BadRecord, AllowancePassed}
 use Rattle.rules.specs.declared.Verdict.{Verdict}
 use Rattle.rules.specs.declared.Verdict.the-variants.{Refused, Accepted}
 use Rattle.rules.specs.Refusals.{verdictNumber}
 use Rattle.aims.specs.declared.Aim.{Aim}
 use Rattle.tallies.specs.Counted.{isStop, isAccepted, comesTo}
 
-pub told : (v : Verdict) → (isStop v ≡ ltb 8 (verdictNumber v)) × (not (isAccepted v) ≡ ltb 0 (verdictNumber v))
+abbrev stopping : ℕ → Bool
+stopping n = ltb 8 n && ltb n 11
+
+pub told : (v : Verdict) → (isStop v ≡ stopping (verdictNumber v)) × (not (isAccepted v) ≡ ltb 0 (verdictNumber v))
+told (Refused UnknownProfile) = (refl, refl)
 told (Refused WrongLength) = (refl, refl)
 told (Refused WrongOrder) = (refl, refl)
 told (Refused TooManyKeys) = (refl, refl)
@@ -25,10 +31,10 @@ told (Refused AllowancePassed) = (refl, refl)
 told Accepted = (refl, refl)
 
 pub stop-high : (v : Verdict) → isStop v ≡ true → 8 < verdictNumber v
-stop-high v e = ltb→lt 8 (verdictNumber v) (subst T (sym e ∙ told v .0) tt)
+stop-high v e = ltb→lt 8 (verdictNumber v) (and-left (ltb 8 (verdictNumber v)) (ltb (verdictNumber v) 11) (subst T (sym e ∙ told v .0) tt))
 
-pub on-low : (v : Verdict) → isStop v ≡ false → verdictNumber v ≤ 8
-on-low v e = nltb→le 8 (verdictNumber v) (subst (λ (b : Bool). T (not b)) (sym e ∙ told v .0) tt)
+pub on-good : (v : Verdict) → isStop v ≡ false → verdictNumber v ≢ 9
+on-good v e z = subst (λ (b : Bool). T (not b)) (sym e ∙ told v .0 ∙ ap stopping z) tt
 
 pub accepted-is : (v : Verdict) → isAccepted v ≡ true → v ≡ Accepted
 accepted-is (Refused x) e = absurd (subst T (sym e) tt)

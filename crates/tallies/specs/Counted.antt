@@ -11,6 +11,7 @@ use Rattle.aims.specs.declared.Aim.{Aim}
 
 -- A bad record and moves over the allowance stop a run; other refusals count as refused, and it goes on.
 abbrev pub stopsRun : Refusal → Bool
+stopsRun Refusal.UnknownProfile = false
 stopsRun Refusal.WrongLength = false
 stopsRun Refusal.WrongOrder = false
 stopsRun Refusal.TooManyKeys = false

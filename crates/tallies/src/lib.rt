@@ -4,7 +4,7 @@ ghost use mathlib.Core.Bool.{true, false};
 ghost use Prim.Native.Nat.{_+_, _≤_, _<_, _^_};
 ghost use lib.ListN.{length, drop};
 ghost use Rattle.forecast.specs.declared.Forecast.{Forecast};
-ghost use Rattle.rules.specs.Shares.{shares};
+ghost use Rattle.shares.specs.Rows.{sharesAt};
 ghost use Rattle.rules.specs.Calls.{roomOf};
 ghost use Rattle.rules.specs.Runs.{requestOf, nothing};
 ghost use Rattle.aims.specs.Aims.{Stands, Known, Aimed};
@@ -26,7 +26,7 @@ pub fn aim_at(
     place: usize,
 ) -> Aim
     requires { ⌜ Known (now list) (now bounds) (now counts) shape keys × (place ≤ length (now bytes)) ⌝ }
-    ensures { λ r. ⌜ ((F : Forecast) → Stands (now (list .entry)) F shape keys → Aimed (shares (shape .height)) (requestOf (drop place (now (bytes .entry)))) (roomOf (now (list .entry)) F) r) ⌝ }
+    ensures { λ r. ⌜ ((F : Forecast) → Stands (now (list .entry)) F shape keys → Aimed (sharesAt shape) (requestOf (drop place (now (bytes .entry)))) (roomOf (now (list .entry)) F) r) ⌝ }
 {
     let request = records::request_of(&bytes[place..]);
     aims::aiming::aim(list, bounds, counts, shape, request, keys)
@@ -36,6 +36,7 @@ fn refusal_stops(refusal: Refusal) -> bool
     ensures { λ r. ⌜ r ≡ stopsRun refusal ⌝ }
 {
     match refusal {
+        Refusal::UnknownProfile => false,
         Refusal::WrongLength => false,
         Refusal::WrongOrder => false,
         Refusal::TooManyKeys => false,

@@ -7,9 +7,9 @@ use Rattle.rules.specs.declared.Totals.{Totals}
 use Rattle.told.specs.declared.ToldRun.{ToldRun}
 use Rattle.told.specs.Tells.{RunTells}
 
-module _ (slots : List ℕ) (F : Forecast) (bytes : List ℕ) (allowance : ℕ) (T : Totals) where
+module _ (profile : ℕ) (slots : List ℕ) (F : Forecast) (bytes : List ℕ) (allowance : ℕ) (T : Totals) where
   pub told-one : (r r′ : ToldRun) (left left′ : List ℕ)
-      → RunTells slots F bytes allowance T r left → RunTells slots F bytes allowance T r′ left′ → (r ≡ r′) × (left ≡ left′)
+      → RunTells profile slots F bytes allowance T r left → RunTells profile slots F bytes allowance T r′ left′ → (r ≡ r′) × (left ≡ left′)
   told-one r r′ left left′ a b = (
     λ i. record {
       told = record {

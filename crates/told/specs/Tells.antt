@@ -7,10 +7,10 @@ use Rattle.rules.specs.declared.Totals.{Totals}
 use Rattle.rules.specs.Calls as rules
 use Rattle.told.specs.declared.ToldRun.{ToldRun}
 
--- the slots, forecast, bytes, allowance and totals lent; what it returns; and the slots left
-pub record RunTells (slots : List ℕ) (F : Forecast) (bytes : List ℕ) (allowance : ℕ) (T : Totals) (r : ToldRun) (left : List ℕ) : Type 0 where
-  pub tally : r .told .tally ≡ rules.run slots F bytes allowance T .reply .tally
-  pub stop : r .told .stop ≡ rules.run slots F bytes allowance T .reply .stop
-  pub forecast : r .told .forecast ≡ rules.run slots F bytes allowance T .forecast
-  pub totals : r .totals ≡ rules.run slots F bytes allowance T .totals
-  pub slots-left : left ≡ rules.run slots F bytes allowance T .slots
+-- the profile's number, the slots, forecast, bytes, allowance and totals lent; what it returns; and the slots left
+pub record RunTells (profile : ℕ) (slots : List ℕ) (F : Forecast) (bytes : List ℕ) (allowance : ℕ) (T : Totals) (r : ToldRun) (left : List ℕ) : Type 0 where
+  pub tally : r .told .tally ≡ rules.run profile slots F bytes allowance T .reply .tally
+  pub stop : r .told .stop ≡ rules.run profile slots F bytes allowance T .reply .stop
+  pub forecast : r .told .forecast ≡ rules.run profile slots F bytes allowance T .forecast
+  pub totals : r .totals ≡ rules.run profile slots F bytes allowance T .totals
+  pub slots-left : left ≡ rules.run profile slots F bytes allowance T .slots

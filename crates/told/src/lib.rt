@@ -19,15 +19,16 @@ pub struct ToldRun {
 
 // A run told in numbers.
 pub fn run_told(
+    profile: u64,
     list: &mut [u64],
     forecast: Forecast,
     requests: &[u8],
     allowance: u64,
     totals: Totals,
 ) -> ToldRun
-    ensures { λ r. ⌜ RunTells (now (list .entry)) forecast (now (requests .entry)) allowance totals r (now (list .exit)) ⌝ }
+    ensures { λ r. ⌜ RunTells profile (now (list .entry)) forecast (now (requests .entry)) allowance totals r (now (list .exit)) ⌝ }
 {
-    let done = run::running::run_with(list, forecast, requests, allowance, totals);
+    let done = run::running::run_with(profile, list, forecast, requests, allowance, totals);
     let reply = done.reply;
     let left = reply.forecast;
     let tally = reply.tally;
@@ -46,15 +47,16 @@ pub fn run_told(
 // The run, adding to the totals that are lent. A C program may call it too.
 #[no_mangle]
 pub extern "C" fn ff_run_over(
+    profile: u64,
     list: &mut [u64],
     forecast: Forecast,
     requests: &[u8],
     allowance: u64,
     totals: &mut Totals,
 ) -> Told
-    ensures { λ r. ⌜ RunTells (now (list .entry)) forecast (now (requests .entry)) allowance (now (totals .entry)) (record { told = r; totals = now (totals .exit) }) (now (list .exit)) ⌝ }
+    ensures { λ r. ⌜ RunTells profile (now (list .entry)) forecast (now (requests .entry)) allowance (now (totals .entry)) (record { told = r; totals = now (totals .exit) }) (now (list .exit)) ⌝ }
 {
-    let done = run_told(list, forecast, requests, allowance, *totals);
+    let done = run_told(profile, list, forecast, requests, allowance, *totals);
     *totals = done.totals;
     done.told
 }

@@ -1,4 +1,4 @@
-// Works the commands of its standard input on one array and one forecast, through the public calls, and writes what each call answers.
+// Works the commands of its standard input on one array and one forecast, in one profile at a time, through the public calls, and writes what each call answers.
 // A command is 25 bytes: what is asked, and three numbers, high byte first.
 ghost use Prim.Native.Nat.{_≤_, _<_, _+_};
 ghost use lib.ListN.{length};
@@ -13,8 +13,9 @@ struct Command {
     z: u64,
 }
 
-// The number of slots in use, and the forecast.
+// The profile's number, the number of slots in use, and the forecast.
 struct Room {
+    profile: u64,
     len: usize,
     forecast: Forecast,
 }
@@ -125,11 +126,15 @@ fn ask_make(slots: &mut [u64], room: Room, c: Command) -> Room {
     if slots.len() < len {
         return room;
     }
-    let reply = list::calls::make(&mut slots[..len]);
+    let reply = list::calls::make(room.profile, &mut slots[..len]);
     let answer = reply.answer;
     line(b"make", telling::make_number(answer), 0, 0);
     let forecast = reply.forecast;
-    Room { len, forecast }
+    Room {
+        profile: room.profile,
+        len,
+        forecast,
+    }
 }
 
 // 2: insert of x.
@@ -138,11 +143,15 @@ fn ask_insert(slots: &mut [u64], room: Room, c: Command) -> Room {
     if slots.len() < len {
         return room;
     }
-    let reply = list::changing::insert(&mut slots[..len], room.forecast, c.x);
+    let reply = list::changing::insert(room.profile, &mut slots[..len], room.forecast, c.x);
     let answer = reply.answer;
     told(b"insert", telling::insert_told(answer));
     let forecast = reply.forecast;
-    Room { len, forecast }
+    Room {
+        profile: room.profile,
+        len,
+        forecast,
+    }
 }
 
 // 3: delete of x.
@@ -151,11 +160,15 @@ fn ask_delete(slots: &mut [u64], room: Room, c: Command) -> Room {
     if slots.len() < len {
         return room;
     }
-    let reply = list::changing::delete(&mut slots[..len], room.forecast, c.x);
+    let reply = list::changing::delete(room.profile, &mut slots[..len], room.forecast, c.x);
     let answer = reply.answer;
     told(b"delete", telling::delete_told(answer));
     let forecast = reply.forecast;
-    Room { len, forecast }
+    Room {
+        profile: room.profile,
+        len,
+        forecast,
+    }
 }
 
 // 4: lookup of x.
@@ -164,18 +177,18 @@ fn ask_lookup(slots: &[u64], room: Room, c: Command) {
     if slots.len() < len {
         return;
     }
-    let answer = list::calls::lookup(&slots[..len], c.x);
+    let answer = list::calls::lookup(room.profile, &slots[..len], c.x);
     told(b"lookup", telling::lookup_told(answer));
 }
 
 // 5: scan from x into an output of y numbers, filled with 7 before.
 fn ask_scan(slots: &[u64], room: Room, c: Command) {
     let mut output = [7u64; 64];
-    scan_into(slots, room.len, c, &mut output);
+    scan_into(slots, room.profile, room.len, c, &mut output);
 }
 
 // The scan into the first y numbers of an output, and what the whole output holds then.
-fn scan_into(slots: &[u64], len: usize, c: Command, output: &mut [u64]) {
+fn scan_into(slots: &[u64], profile: u64, len: usize, c: Command, output: &mut [u64]) {
     let n = c.y as usize;
     if slots.len() < len {
         return;
@@ -183,7 +196,7 @@ fn scan_into(slots: &[u64], len: usize, c: Command, output: &mut [u64]) {
     if output.len() < n {
         return;
     }
-    let answer = list::calls::scan(&slots[..len], c.x, &mut output[..n]);
+    let answer = list::calls::scan(profile, &slots[..len], c.x, &mut output[..n]);
     told(b"scan", telling::scan_told(answer));
     line(b"output", sum_of(output), 0, 0);
 }
@@ -194,7 +207,7 @@ fn ask_check(slots: &[u64], room: Room) {
     if slots.len() < len {
         return;
     }
-    let answer = list::calls::check(&slots[..len], room.forecast);
+    let answer = list::calls::check(room.profile, &slots[..len], room.forecast);
     line(b"check", telling::check_number(answer), 0, 0);
 }
 
@@ -216,6 +229,7 @@ fn ask_cell(room: Room, c: Command) -> Room {
         forecast.counts[i] = narrow(c.z % 4294967296);
     }
     Room {
+        profile: room.profile,
         len: room.len,
         forecast,
     }
@@ -226,6 +240,17 @@ fn ask_used(room: Room, c: Command) -> Room {
     let mut forecast = room.forecast;
     forecast.used = c.x as usize;
     Room {
+        profile: room.profile,
+        len: room.len,
+        forecast,
+    }
+}
+
+// 11: the profile from now on is the one that x names.
+fn ask_profile(room: Room, c: Command) -> Room {
+    let forecast = room.forecast;
+    Room {
+        profile: c.x,
         len: room.len,
         forecast,
     }
@@ -250,6 +275,7 @@ fn work(slots: &mut [u64], room: Room, c: Command) -> Room {
         3 => ask_delete(slots, room, c),
         8 => ask_cell(room, c),
         9 => ask_used(room, c),
+        11 => ask_profile(room, c),
         _ => {
             look(slots, room, c);
             room
@@ -270,6 +296,7 @@ fn look(slots: &mut [u64], room: Room, c: Command) {
 
 fn play(input: &[u8], slots: &mut [u64]) {
     let mut room = Room {
+        profile: 1,
         len: 0,
         forecast: Forecast::empty(),
     };

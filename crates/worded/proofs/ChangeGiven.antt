@@ -1,13 +1,12 @@
 -- Insert and delete: from what the calls below them promise to what they give, where the sizes fit.
 use Prim.Native.Nat.{ℕ, _≤_}
-use mathlib.Core.Path.{_≡_, sym, ap, _∙_}
+use mathlib.Core.Path.{_≡_, sym, ap, _∙_, subst}
 use mathlib.Core.Logic.{inl, inr, _≢_}
 use mathlib.Core.Bool.{_||_}
 use mathlib.Core.List.{List, [], _∷_}
-use native.Mathlib.Omega.{arith}
-use lib.Dec.{eqb, eqb→eq}
+use lib.Dec.{T, eqb, eqb→eq}
 use lib.ListN.{length}
-use Rattle.lists.proofs.Tests.{tested, neqb→ne}
+use Rattle.lists.proofs.Tests.{tested, neqb→ne, nor}
 use Rattle.forecast.specs.declared.Forecast.{Forecast}
 use Rattle.rules.specs.declared.Request.{Request}
 use Rattle.rules.specs.declared.Request.the-variants.{Insert, Delete}
@@ -21,32 +20,32 @@ use Rattle.answers.specs.Admits.{InsertAdmits, DeleteAdmits}
 use Rattle.answers.specs.Answers.{insertPaper, deletePaper}
 use Rattle.given.specs.declared.Told.{Told}
 use Rattle.given.specs.Calls.{Given, sized, notForecast, short, insert, delete, over, Gives}
-use Rattle.given.proofs.Leaves.{small}
+use Rattle.given.proofs.Sizes.{fitted, forecast-sized, reply-sized}
+use Rattle.given.proofs.Leaves.{told-each}
 use Rattle.telling.specs.Told.{answerWords}
 use Rattle.words.specs.Words.{forecastIn, forecastWords, saturated}
 use Rattle.words.proofs.WordLaws.{words-again, forecastIn-roomy}
 use Rattle.words.proofs.Called.{request-same}
 use Rattle.posts.specs.Posts.{oneWord, twoWords, Posted}
 use Rattle.replies.specs.Back.{worksOn, handedBack}
-use Rattle.replies.proofs.Back.{works-not, handed, kept}
-use Rattle.worded.proofs.Fitted.{both-fitted}
+use Rattle.replies.proofs.Back.{plain, works-not, handed, kept}
 
 -- A REQUEST on the forecast that the words show: its answer, the slots left, and the words left. They are the same where the request
 -- is done, and where it is refused those lent are left.
-module _ (q : Request) (list forecast : List ℕ) where
+module _ (profile : ℕ) (q : Request) (list forecast : List ℕ) where
   abbrev C : rules.Called
-  C = rules.request q list (forecastIn forecast)
+  C = rules.request profile q list (forecastIn forecast)
 
   record Asked (a : Answer) (list' forecast' : List ℕ) : Type 0 where
     answer : a ≡ C .answer
     slots : list' ≡ C .slots
     words : forecast' ≡ forecastWords (C .forecast)
 
-  asked : (F : Forecast) (c : rules.Called) (n : ℕ) (forecast' : List ℕ) → length forecast ≡ 37 → C .answer .number ≤ 8 → F ≡ saturated (forecastIn forecast)
-      → c ≡ rules.request q list F → n ≡ c .answer .number → forecast' ≡ handedBack n (c .forecast) forecast → Asked (c .answer) (c .slots) forecast'
+  asked : (F : Forecast) (c : rules.Called) (n : ℕ) (forecast' : List ℕ) → length forecast ≡ 37 → T (plain (C .answer .number)) → F ≡ saturated (forecastIn forecast)
+      → c ≡ rules.request profile q list F → n ≡ c .answer .number → forecast' ≡ handedBack n (c .forecast) forecast → Asked (c .answer) (c .slots) forecast'
   asked F c n forecast' l few f e en w =
-      let is : c ≡ rules.request q list (saturated (forecastIn forecast)) = e ∙ ap (rules.request q list) f in
-      let same = request-same q list (forecastIn forecast) (forecastIn-roomy forecast) in
+      let is : c ≡ rules.request profile q list (saturated (forecastIn forecast)) = e ∙ ap (rules.request profile q list) f in
+      let same = request-same profile q list (forecastIn forecast) (forecastIn-roomy forecast) in
       let answer = ap (λ (d : rules.Called). d .answer) is ∙ same .answer in
       let number : n ≡ C .answer .number = en ∙ ap (λ (x : Answer). x .number) answer in
       record {
@@ -58,39 +57,39 @@ module _ (q : Request) (list forecast : List ℕ) where
               w ∙ handed n (c .forecast) forecast (ap worksOn z) ∙ ap forecastWords (ap (λ (d : rules.Called). d .forecast) is ∙ same .done (sym number ∙ z)))
           | inr d ↦
               (let z : n ≢ 0 = neqb→ne n 0 d in
-              w ∙ kept n (c .forecast) forecast (works-not n (omega (arith, z)) (omega (arith, number, few)))
+              w ∙ kept n (c .forecast) forecast (works-not n (subst (λ (k : ℕ). T (plain k)) (sym number) few) z)
               ∙ sym (ap forecastWords (same .left (λ y. z (number ∙ y))) ∙ words-again forecast l))
         ];
       }
 
 -- what the call gives whose reply has the m words `words`
-module _ (q : Request) (words : Told → List ℕ) (m : ℕ) (list forecast reply : List ℕ) where
+module _ (profile : ℕ) (q : Request) (words : Told → List ℕ) (m : ℕ) (list forecast reply : List ℕ) where
   abbrev Outcome : Given
-  Outcome = record { number = C q list forecast .answer .number; left = C q list forecast .slots ∷ forecastWords (C q list forecast .forecast) ∷ over (words (answerWords (C q list forecast .answer))) reply ∷ [] }
+  Outcome = record { number = C profile q list forecast .answer .number; left = C profile q list forecast .slots ∷ forecastWords (C profile q list forecast .forecast) ∷ over (words (answerWords (C profile q list forecast .answer))) reply ∷ [] }
 
-  request-given : (F : Forecast) (c : rules.Called) (n : ℕ) (forecast' reply' : List ℕ) → length forecast ≡ 37 → m ≤ length reply → C q list forecast .answer .number ≤ 8
-      → F ≡ saturated (forecastIn forecast) → c ≡ rules.request q list F → Posted words (answerWords (c .answer)) (c .forecast) forecast reply n forecast' reply'
+  request-given : (F : Forecast) (c : rules.Called) (n : ℕ) (forecast' reply' : List ℕ) → length forecast ≡ 37 → m ≤ length reply → T (plain (C profile q list forecast .answer .number))
+      → F ≡ saturated (forecastIn forecast) → c ≡ rules.request profile q list F → Posted words (answerWords (c .answer)) (c .forecast) forecast reply n forecast' reply'
       → Gives (sized (notForecast forecast || short reply m) (list ∷ forecast ∷ reply ∷ []) Outcome) n (c .slots ∷ forecast' ∷ reply' ∷ [])
   request-given F c n forecast' reply' l k few f e p =
-      let d = asked q list forecast F c n forecast' l few f e (p .number) (p .forecast-left) in
+      let d = asked profile q list forecast F c n forecast' l few f e (p .number) (p .forecast-left) in
       let said = p .reply-left ∙ ap (λ (x : Answer). over (words (answerWords x)) reply) (d .answer) in
-      both-fitted forecast reply m _ _ _ _ l k (record { number = p .number ∙ ap (λ (x : Answer). x .number) (d .answer); slices = λ i. d .slots i ∷ d .words i ∷ said i ∷ [] })
+      fitted (notForecast forecast || short reply m) _ _ (nor (notForecast forecast) (short reply m) (forecast-sized forecast l) (reply-sized reply m k)) (record { number = p .number ∙ ap (λ (x : Answer). x .number) (d .answer); slices = λ i. d .slots i ∷ d .words i ∷ said i ∷ [] })
 
-module _ (list forecast : List ℕ) (key : ℕ) (reply : List ℕ) (l : length forecast ≡ 37) where
+module _ (profile : ℕ) (list forecast : List ℕ) (key : ℕ) (reply : List ℕ) (l : length forecast ≡ 37) where
   pub insert-given : (F : Forecast) (k : InsertReply) (n : ℕ) (list' forecast' reply' : List ℕ) → 1 ≤ length reply → F ≡ saturated (forecastIn forecast)
-      → InsertAdmits list F key k list' → Posted oneWord (answerWords (insertPaper (k .answer))) (k .forecast) forecast reply n forecast' reply'
-      → Gives (insert list forecast key reply) n (list' ∷ forecast' ∷ reply' ∷ [])
+      → InsertAdmits profile list F key k list' → Posted oneWord (answerWords (insertPaper (k .answer))) (k .forecast) forecast reply n forecast' reply'
+      → Gives (insert profile list forecast key reply) n (list' ∷ forecast' ∷ reply' ∷ [])
   unfolding insert
   insert-given F k n list' forecast' reply' m f a =
-      request-given (Insert key) oneWord 1 list forecast reply F (record { answer = insertPaper (k .answer); slots = list'; forecast = k .forecast }) n forecast' reply' l m
-      (small 8 (insertRows list (forecastIn forecast) key) _ (omega arith) (below.insert-tells list (forecastIn forecast) key (forecastIn-roomy forecast))) f
+      request-given profile (Insert key) oneWord 1 list forecast reply F (record { answer = insertPaper (k .answer); slots = list'; forecast = k .forecast }) n forecast' reply' l m
+      (told-each plain (insertRows profile list (forecastIn forecast) key) _ tt (below.insert-tells profile list (forecastIn forecast) key (forecastIn-roomy forecast))) f
       (λ i. record { answer = a .answer i; slots = a .slots-left i; forecast = a .forecast i })
 
   pub delete-given : (F : Forecast) (k : DeleteReply) (n : ℕ) (list' forecast' reply' : List ℕ) → 2 ≤ length reply → F ≡ saturated (forecastIn forecast)
-      → DeleteAdmits list F key k list' → Posted twoWords (answerWords (deletePaper (k .answer))) (k .forecast) forecast reply n forecast' reply'
-      → Gives (delete list forecast key reply) n (list' ∷ forecast' ∷ reply' ∷ [])
+      → DeleteAdmits profile list F key k list' → Posted twoWords (answerWords (deletePaper (k .answer))) (k .forecast) forecast reply n forecast' reply'
+      → Gives (delete profile list forecast key reply) n (list' ∷ forecast' ∷ reply' ∷ [])
   unfolding delete
   delete-given F k n list' forecast' reply' m f a =
-      request-given (Delete key) twoWords 2 list forecast reply F (record { answer = deletePaper (k .answer); slots = list'; forecast = k .forecast }) n forecast' reply' l m
-      (small 8 (deleteRows list (forecastIn forecast) key) _ (omega arith) (below.delete-tells list (forecastIn forecast) key (forecastIn-roomy forecast))) f
+      request-given profile (Delete key) twoWords 2 list forecast reply F (record { answer = deletePaper (k .answer); slots = list'; forecast = k .forecast }) n forecast' reply' l m
+      (told-each plain (deleteRows profile list (forecastIn forecast) key) _ tt (below.delete-tells profile list (forecastIn forecast) key (forecastIn-roomy forecast))) f
       (λ i. record { answer = a .answer i; slots = a .slots-left i; forecast = a .forecast i })

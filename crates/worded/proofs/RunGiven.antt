@@ -2,12 +2,11 @@
 use Prim.Native.Nat.{ℕ, _≤_}
 use mathlib.Core.Path.{_≡_, sym, ap, _∙_}
 use mathlib.Core.Logic.{inl, inr, _≢_}
-use mathlib.Core.Bool.{true, false}
+use mathlib.Core.Bool.{true, false, _||_}
 use mathlib.Core.List.{List, [], _∷_}
-use native.Mathlib.Omega.{arith}
 use lib.Dec.{eqb, eqb→eq}
 use lib.ListN.{length}
-use Rattle.lists.proofs.Tests.{tested, neqb→ne}
+use Rattle.lists.proofs.Tests.{tested, neqb→ne, nor}
 use Rattle.forecast.specs.declared.Forecast.{Forecast}
 use Rattle.rules.specs.declared.Tally.{Tally}
 use Rattle.rules.specs.declared.Totals.{Totals}
@@ -22,15 +21,16 @@ use Rattle.words.specs.Words.{forecastIn, forecastWords, saturated}
 use Rattle.words.specs.Totals.{totalsIn, totalsWords}
 use Rattle.words.proofs.WordLaws.{words-again, forecastIn-roomy}
 use Rattle.words.proofs.Called.{run-same}
-use Rattle.given.specs.Calls.{run, over, replyWords, Gives}
-use Rattle.given.proofs.Leaves.{small}
+use Rattle.given.specs.Calls.{notForecast, notTotals, short, run, over, replyWords, Gives}
+use Rattle.given.proofs.Sizes.{fitted, forecast-sized, totals-sized, reply-sized}
+use Rattle.given.proofs.Leaves.{told-each}
 use Rattle.posts.specs.Posts.{RunPosted}
 use Rattle.replies.specs.Back.{worksOn, handedBack}
-use Rattle.replies.proofs.Back.{works-not, handed, kept}
-use Rattle.worded.proofs.Fitted.{all-fitted}
+use Rattle.replies.proofs.Back.{plain, works-not, handed, kept}
 
 -- what a run on words is lent, of the right sizes
 pub record Lent : Type 0 where
+  pub profile : ℕ
   pub list : List ℕ
   pub forecast : List ℕ
   pub requests : List ℕ
@@ -42,6 +42,9 @@ pub record Lent : Type 0 where
   pub reply-fits : 4 ≤ length reply
 
 module _ (x : Lent) where
+  abbrev profile : ℕ
+  profile = x .profile
+
   abbrev list : List ℕ
   list = x .list
 
@@ -58,51 +61,53 @@ module _ (x : Lent) where
   totals = x .totals
 
   abbrev W : rules.Worked
-  W = rules.run list (forecastIn forecast) requests allowance (totalsIn totals)
+  W = rules.run profile list (forecastIn forecast) requests allowance (totalsIn totals)
 
   -- a checked run stops by 0, 9 or 10
-  late : checks.check list (forecastIn forecast) ≡ 0 → worksOn (W .reply .stop) ≡ true
-  late z = stops (singly.run-tells list (forecastIn forecast) requests allowance (totalsIn totals) z .0)
+  late : checks.check profile list (forecastIn forecast) ≡ 0 → worksOn (W .reply .stop) ≡ true
+  late z = stops (singly.run-tells profile list (forecastIn forecast) requests allowance (totalsIn totals) z .0)
     where
-      stops : Tells (stopRows requests allowance W) (W .reply .stop) → worksOn (W .reply .stop) ≡ true
+      stops : Tells (stopRows profile requests allowance W) (W .reply .stop) → worksOn (W .reply .stop) ≡ true
       stops (inl (u, e)) = ap worksOn e
       stops (inr (u, inl (v, e))) = ap worksOn e
       stops (inr (u, inr (v, e))) = ap worksOn e
 
   -- one that is refused at once, by a number of the check
-  early : checks.check list (forecastIn forecast) ≢ 0 → worksOn (checks.check list (forecastIn forecast)) ≡ false
+  early : checks.check profile list (forecastIn forecast) ≢ 0 → worksOn (checks.check profile list (forecastIn forecast)) ≡ false
   early z =
-      let few : checks.check list (forecastIn forecast) ≤ 8 = small 8 (bothRows list (forecastIn forecast)) _ (omega arith) (below.check-tells list (forecastIn forecast) (forecastIn-roomy forecast)) in
-      works-not (checks.check list (forecastIn forecast)) (omega (arith, z)) few
+      works-not (checks.check profile list (forecastIn forecast))
+      (told-each plain (bothRows profile list (forecastIn forecast)) _ tt (below.check-tells profile list (forecastIn forecast) (forecastIn-roomy forecast))) z
 
   -- the words written are the same where the run is worked, and where it is refused at once those lent are left
   back : (n : ℕ) (G : Forecast) → n ≡ W .reply .stop
-      → G ≡ rules.run list (saturated (forecastIn forecast)) requests allowance (totalsIn totals) .forecast → handedBack n G forecast ≡ forecastWords (W .forecast)
+      → G ≡ rules.run profile list (saturated (forecastIn forecast)) requests allowance (totalsIn totals) .forecast → handedBack n G forecast ≡ forecastWords (W .forecast)
   back n G e g =
-      let same = run-same list (forecastIn forecast) requests allowance (totalsIn totals) (forecastIn-roomy forecast) in
-      elim (tested (eqb (checks.check list (forecastIn forecast)) 0)) [
+      let same = run-same profile list (forecastIn forecast) requests allowance (totalsIn totals) (forecastIn-roomy forecast) in
+      elim (tested (eqb (checks.check profile list (forecastIn forecast)) 0)) [
         | inl t ↦
-            (let z : checks.check list (forecastIn forecast) ≡ 0 = eqb→eq _ _ t in
+            (let z : checks.check profile list (forecastIn forecast) ≡ 0 = eqb→eq _ _ t in
             handed n G forecast (ap worksOn e ∙ late z) ∙ ap forecastWords (g ∙ same .done z))
         | inr t ↦
-            (let z : checks.check list (forecastIn forecast) ≢ 0 = neqb→ne _ _ t in
+            (let z : checks.check profile list (forecastIn forecast) ≢ 0 = neqb→ne _ _ t in
             let q = same .left z in
             kept n G forecast (ap worksOn (e ∙ q .1) ∙ early z) ∙ sym (ap forecastWords (q .0) ∙ words-again forecast (x .forecast-fits)))
       ]
 
   pub run-given : (F : Forecast) (T : Totals) (k : ToldRun) (list' forecast' totals' reply' : List ℕ) → F ≡ saturated (forecastIn (x .forecast)) → T ≡ totalsIn (x .totals)
-      → RunTells (x .list) F (x .requests) (x .allowance) T k list'
+      → RunTells (x .profile) (x .list) F (x .requests) (x .allowance) T k list'
       → RunPosted (k .told .stop) (k .told .forecast) (k .told .tally) (k .totals) (x .forecast) (x .reply) forecast' totals' reply'
-      → Gives (run (x .list) (x .forecast) (x .requests) (x .allowance) (x .totals) (x .reply)) (k .told .stop) (list' ∷ forecast' ∷ totals' ∷ reply' ∷ [])
+      → Gives (run (x .profile) (x .list) (x .forecast) (x .requests) (x .allowance) (x .totals) (x .reply)) (k .told .stop) (list' ∷ forecast' ∷ totals' ∷ reply' ∷ [])
   unfolding run
   run-given F T k list' forecast' totals' reply' f g a p =
-      let is : rules.run list F requests allowance T ≡ rules.run list (saturated (forecastIn forecast)) requests allowance (totalsIn totals) = λ i. rules.run list (f i) requests allowance (g i) in
-      let same = run-same list (forecastIn forecast) requests allowance (totalsIn totals) (forecastIn-roomy forecast) in
+      let is : rules.run profile list F requests allowance T ≡ rules.run profile list (saturated (forecastIn forecast)) requests allowance (totalsIn totals) = λ i. rules.run profile list (f i) requests allowance (g i) in
+      let same = run-same profile list (forecastIn forecast) requests allowance (totalsIn totals) (forecastIn-roomy forecast) in
       let slots = a .slots-left ∙ ap (λ (w : rules.Worked). w .slots) is ∙ same .slots-left in
       let stop = a .stop ∙ ap (λ (w : rules.Worked). w .reply .stop) is ∙ ap (λ (r : rules.Reply). r .stop) (same .reply) in
       let words = p .forecast-left ∙ back (k .told .stop) (k .told .forecast) stop (a .forecast ∙ ap (λ (w : rules.Worked). w .forecast) is) in
       let sums = p .totals-left ∙ ap totalsWords (a .totals ∙ ap (λ (w : rules.Worked). w .totals) is ∙ same .totals) in
       let tally = a .tally ∙ ap (λ (w : rules.Worked). w .reply .tally) is ∙ ap (λ (r : rules.Reply). r .tally) (same .reply) in
       let said = p .reply-left ∙ ap (λ (t : Tally). over (replyWords t) (x .reply)) tally in
-      all-fitted (x .forecast) (x .totals) (x .reply) _ _ _ _ (x .forecast-fits) (x .totals-fit) (x .reply-fits)
+      fitted (notForecast (x .forecast) || (notTotals (x .totals) || short (x .reply) 4)) _ _
+      (nor (notForecast (x .forecast)) (notTotals (x .totals) || short (x .reply) 4) (forecast-sized (x .forecast) (x .forecast-fits))
+      (nor (notTotals (x .totals)) (short (x .reply) 4) (totals-sized (x .totals) (x .totals-fit)) (reply-sized (x .reply) 4 (x .reply-fits))))
       (record { number = stop; slices = λ i. slots i ∷ words i ∷ sums i ∷ said i ∷ [] })

@@ -7,27 +7,40 @@ ghost use Rattle.given.specs.Calls.{Gives};
 ghost use Rattle.given.specs.Calls as calls;
 
 // Puts a new key in.
-pub fn insert(list: &mut [u64], forecast: &mut [u64], key: u64, reply: &mut [u64]) -> u64
+pub fn insert(
+    profile: u64,
+    list: &mut [u64],
+    forecast: &mut [u64],
+    key: u64,
+    reply: &mut [u64],
+) -> u64
     requires { ⌜ (length (now forecast) ≡ 37) × (1 ≤ length (now reply)) ⌝ }
-    ensures { λ r. ⌜ Gives (calls.insert (now (list .entry)) (now (forecast .entry)) key (now (reply .entry))) r (now (list .exit) ∷ now (forecast .exit) ∷ now (reply .exit) ∷ []) ⌝ }
+    ensures { λ r. ⌜ Gives (calls.insert profile (now (list .entry)) (now (forecast .entry)) key (now (reply .entry))) r (now (list .exit) ∷ now (forecast .exit) ∷ now (reply .exit) ∷ []) ⌝ }
 {
     let given = words::read_forecast(forecast);
-    let done = list::changing::insert(list, given, key);
+    let done = list::changing::insert(profile, list, given, key);
     posts::post_insert(done, forecast, reply)
 }
 
 // Takes a live key out.
-pub fn delete(list: &mut [u64], forecast: &mut [u64], key: u64, reply: &mut [u64]) -> u64
+pub fn delete(
+    profile: u64,
+    list: &mut [u64],
+    forecast: &mut [u64],
+    key: u64,
+    reply: &mut [u64],
+) -> u64
     requires { ⌜ (length (now forecast) ≡ 37) × (2 ≤ length (now reply)) ⌝ }
-    ensures { λ r. ⌜ Gives (calls.delete (now (list .entry)) (now (forecast .entry)) key (now (reply .entry))) r (now (list .exit) ∷ now (forecast .exit) ∷ now (reply .exit) ∷ []) ⌝ }
+    ensures { λ r. ⌜ Gives (calls.delete profile (now (list .entry)) (now (forecast .entry)) key (now (reply .entry))) r (now (list .exit) ∷ now (forecast .exit) ∷ now (reply .exit) ∷ []) ⌝ }
 {
     let given = words::read_forecast(forecast);
-    let done = list::changing::delete(list, given, key);
+    let done = list::changing::delete(profile, list, given, key);
     posts::post_delete(done, forecast, reply)
 }
 
 // Works request records, within an allowance of moves.
 pub fn run(
+    profile: u64,
     list: &mut [u64],
     forecast: &mut [u64],
     requests: &[u8],
@@ -36,11 +49,11 @@ pub fn run(
     reply: &mut [u64],
 ) -> u64
     requires { ⌜ (length (now forecast) ≡ 37) × (length (now totals) ≡ 4) × (4 ≤ length (now reply)) ⌝ }
-    ensures { λ r. ⌜ Gives (calls.run (now (list .entry)) (now (forecast .entry)) (now (requests .entry)) allowance (now (totals .entry)) (now (reply .entry))) r (now (list .exit) ∷ now (forecast .exit) ∷ now (totals .exit) ∷ now (reply .exit) ∷ []) ⌝ }
+    ensures { λ r. ⌜ Gives (calls.run profile (now (list .entry)) (now (forecast .entry)) (now (requests .entry)) allowance (now (totals .entry)) (now (reply .entry))) r (now (list .exit) ∷ now (forecast .exit) ∷ now (totals .exit) ∷ now (reply .exit) ∷ []) ⌝ }
 {
     let given = words::read_forecast(forecast);
     let before = words::totals::read_totals(totals);
-    let ran = told::run_told(list, given, requests, allowance, before);
+    let ran = told::run_told(profile, list, given, requests, allowance, before);
     let done = ran.told;
     let stop = done.stop;
     let left = done.forecast;

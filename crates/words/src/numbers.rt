@@ -8,6 +8,7 @@ pub fn refusal_number(refusal: Refusal) -> u64
     ensures { λ r. ⌜ r ≡ refusalNumber refusal ⌝ }
 {
     match refusal {
+        Refusal::UnknownProfile => 15,
         Refusal::WrongLength => 1,
         Refusal::WrongOrder => 2,
         Refusal::TooManyKeys => 3,

@@ -33,9 +33,9 @@ returns c =
     let work = c .before .before .before .before .before in
     let s = work .before .before .before .before .before in
     let worked = work .work-lent .result in
-    let long : length (work .work-lent .last .0) ≡ length (s .args .list .now) = search needs in
-    let t = subst (λ (n : ℕ). TellsSparse (s .args .grows) (worked .last) (worked .keys) n (c .is-sparse .result)) long (c .is-sparse .ensures) in
-    requested (s .args .grows) (s .args .key) (s .args .list .now) (s .args .forecast) _ _ worked _ (c .is-sparse .result) t (work .before .before .before .record-of .ensures) (omega arith) (roomy s) (work .work-lent .ensures)
+    let long : length (work .work-lent .last .1 .0) ≡ length (s .args .list .now) = search needs in
+    let t = subst (λ (n : ℕ). TellsSparse (s .args .profile) (s .args .grows) (worked .last) (worked .keys) n (c .is-sparse .result)) long (c .is-sparse .ensures) in
+    requested (s .args .profile) (s .args .grows) (s .args .key) (s .args .list .now) (s .args .forecast) _ _ worked _ (c .is-sparse .result) t (work .before .before .before .record-of .ensures) (omega arith) (roomy s) (work .work-lent .ensures)
 
 pub ask-spec : {M : Type 1} → statement M
 ask-spec = tie.close (tie.spec record-of-requires slice-aggregate-work-lent work-lent-requires is-sparse-requires same-length returns)

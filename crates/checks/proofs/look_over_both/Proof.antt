@@ -1,7 +1,7 @@
 -- `look_over_both` finds the number of the check of list and forecast.
 use mathlib.Core.Path.{_≡_, sym, ap, _∙_}
 use mathlib.Core.List.{List}
-use Prim.Native.Nat.{ℕ, _≤_}
+use Prim.Native.Nat.{ℕ, _+_, _≤_}
 use native.Mathlib.Omega.{arith}
 use borrow.Author.Needs.{needs}
 use borrow.Author.Tests.{not-true, not-false}
@@ -36,7 +36,8 @@ returns c =
     let L = c .before .before .before .before .look-over .ensures in
     let told = c .enum-told .given .1 in (
       record {
-        number = L .0 .number ∙ sym (list-first _ _ (λ e. refused-some _ _ told (L .0 .number ∙ e)));
+        number = L .0 .number ∙ sym (list-first _ _ _ (λ e. refused-some _ _ told (L .0 .number ∙ e)));
+        named = L .0 .named;
         height = L .0 .height;
         shape = L .0 .shape;
         keys = L .0 .keys;
@@ -49,22 +50,25 @@ enum-told-2 c = search needs
 
 -- the list alone passes
 module _ (c : tie.After-shape) where
+  abbrev profile : ℕ
+  profile = c .before .before .before .before .before .before .before .before .before .args .profile
+
   abbrev list : List ℕ
   list = c .before .before .before .before .before .before .before .before .before .args .list .now
 
   abbrev listing : Listing
   listing = c .before .before .before .before .before .look-over .result
 
-  looked : ListLooked list listing
+  looked : ListLooked profile list listing
   looked = c .before .before .before .before .before .look-over .ensures .0
 
-  counting : Counting list listing (c .before .before .before .before .before .look-over .last .1 .0)
+  counting : Counting list listing (c .before .before .before .before .before .look-over .last .1 .1 .0)
   counting = c .before .before .before .before .before .look-over .ensures .1
 
   accepted : listing .verdict ≡ Accepted
   accepted = c .before .enum-told2 .given .1
 
-  passes : checkList list ≡ 0
+  passes : checkList profile list ≡ 0
   passes = sym (looked .number) ∙ ap verdictNumber accepted
 
 fault-of-requires : tie.Need-fault-of-requires
@@ -81,13 +85,13 @@ module _ (c : tie.After-fault-of) where
   abbrev told : Forecast
   told = c .before .before .before .before .before .before .before .before .before .before .args .forecast
 
-  fault-is : c .fault-of .result ≡ faultOf (cellsOf (sharesOf (list (c .before)))) (segmentsOf (list (c .before))) told
+  fault-is : c .fault-of .result ≡ faultOf (cellsOf (sharesOf (profile (c .before)) (list (c .before)))) (segmentsOf (list (c .before))) told
   fault-is =
       let a = c .before in
       let slots : List ℕ = list a in
-      let long : 64 ≤ length slots = omega (arith, long-passed slots (passes a)) in
-      c .fault-of .ensures (segmentsOf slots) (shows-passed slots (passes a)) long
-      ∙ ap (λ (p : ℕ). faultOf p (segmentsOf slots) told) (looked a .shape (accepted a) .cells ∙ ap (λ (h : ℕ). cellsOf (shares h)) (looked a .height (accepted a)))
+      let long : 64 ≤ length slots = omega (arith, long-passed (profile a) slots (passes a)) in
+      c .fault-of .ensures (segmentsOf slots) (shows-passed (profile a) slots (passes a)) long
+      ∙ ap (λ (p : ℕ). faultOf p (segmentsOf slots) told) (looked a .shape (accepted a) .cells ∙ ap (λ (h : ℕ). 6 + h) (looked a .height (accepted a)))
 
 same-length-2 : tie.Need-same-length-2
 same-length-2 c = search needs
@@ -96,9 +100,9 @@ returns-2 : tie.Need-returns-2
 returns-2 c =
     let f = c .before .before .before in
     let a = f .before in (
-      looked-refused (list a) WrongForecast _ (c .refuse .ensures) _
-          (wrong-forecast (list a) (told f) (passes a) (sym (ap isSound (fault-is f)) ∙ sym (c .before .before .is-sound .ensures) ∙ not-true _ (c .before .if1 .taken))),
-      counting-refused (list a) WrongForecast _ (c .refuse .ensures) _ (counting a .long),
+      looked-refused (profile a) (list a) WrongForecast _ (c .refuse .ensures) _
+          (wrong-forecast (profile a) (list a) (told f) (passes a) (sym (ap isSound (fault-is f)) ∙ sym (c .before .before .is-sound .ensures) ∙ not-true _ (c .before .if1 .taken))),
+      counting-refused (profile a) (list a) WrongForecast _ (c .refuse .ensures) _ (counting a .long),
     )
 
 same-length-3 : tie.Need-same-length-3
@@ -111,7 +115,8 @@ returns-3 c =
       record {
         number =
             ap verdictNumber (accepted a)
-            ∙ sym (both-sound (list a) (told f) (passes a) (sym (ap isSound (fault-is f)) ∙ sym (c .before .is-sound .ensures) ∙ not-false _ (c .if1 .left)));
+            ∙ sym (both-sound (profile a) (list a) (told f) (passes a) (sym (ap isSound (fault-is f)) ∙ sym (c .before .is-sound .ensures) ∙ not-false _ (c .if1 .left)));
+        named = looked a .named;
         height = looked a .height;
         shape = looked a .shape;
         keys = looked a .keys;

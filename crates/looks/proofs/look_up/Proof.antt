@@ -6,10 +6,12 @@ use Prim.Native.Nat.{ℕ}
 use native.Mathlib.Omega.{arith}
 use Rattle.slots.specs.Segments.{Segments, keys, segmentsOf}
 use Rattle.slots.specs.Keys.{member}
+use Rattle.slots.specs.Shown.{Shows}
 use Rattle.slots.proofs.Seats.{seat-live}
 use Rattle.rules.specs.Looking.{Found}
 use Rattle.rules.proofs.Requests.Shown.{shows-passed, long-passed}
-use Rattle.answers.proofs.Replies.{lookup-passed, looked-zero, looked-live, looked-absent}
+use Rattle.rules.proofs.Refusals.CheckCases.{lookup-passed}
+use Rattle.answers.proofs.Replies.{looked-zero, looked-live, looked-absent}
 use Rattle.looks.proofs.look_up.Statement.{statement}
 use Rattle.looks.proofs.look_up.Tie as tie
 
@@ -20,33 +22,37 @@ module _ (s : tie.Start) where
   abbrev key : ℕ
   key = s .args .key
 
+  -- a list that passes shows its segments, whatever the profile
+  shows : Shows (segmentsOf list) list
+  shows = shows-passed (s .pre .0) list (s .pre .1)
+
 returns : tie.Need-returns
-returns c =
+returns c profile e =
     let s = c .before .before in
-    record { answer = sym (lookup-passed (list s) (key s) (s .pre) ∙ looked-zero (key s) (segmentsOf (list s)) (c .if1 .taken)) }
+    record { answer = sym (lookup-passed profile (list s) (key s) e ∙ looked-zero (key s) (segmentsOf (list s)) (c .if1 .taken)) }
 
 locate-requires : tie.Need-locate-requires
-locate-requires c κs = omega (arith, long-passed (list (c .before .before)) (c .before .before .pre))
+locate-requires c κs = omega (arith, long-passed (c .before .before .pre .0) (list (c .before .before)) (c .before .before .pre .1))
 
 returns-2 : tie.Need-returns-2
-returns-2 c =
+returns-2 c profile e =
     let s = c .before .before .before .before in
     let ss : Segments = segmentsOf (list s) in
-    let at = c .before .locate .ensures .1 ss (shows-passed (list s) (s .pre)) in
+    let at = c .before .locate .ensures .1 ss (shows s) in
     let m : member (key s) (keys ss) ≡ true = sym (at .present) ∙ c .if2 .taken in
     record {
       answer =
           sym
-          (lookup-passed (list s) (key s) (s .pre) ∙ looked-live (key s) ss (c .before .before .if1 .left) m
+          (lookup-passed profile (list s) (key s) e ∙ looked-live (key s) ss (c .before .before .if1 .left) m
           ∙ ap {B = Found} (λ k. record { number = 0; present = true; segment = k }) (sym (at .segment ∙ seat-live (key s) ss (rw m tt))));
     }
 
 returns-3 : tie.Need-returns-3
-returns-3 c =
+returns-3 c profile e =
     let s = c .before .before .before .before in
     let ss : Segments = segmentsOf (list s) in
-    let at = c .before .locate .ensures .1 ss (shows-passed (list s) (s .pre)) in
-    record { answer = sym (lookup-passed (list s) (key s) (s .pre) ∙ looked-absent (key s) ss (c .before .before .if1 .left) (sym (at .present) ∙ c .if2 .left)) }
+    let at = c .before .locate .ensures .1 ss (shows s) in
+    record { answer = sym (lookup-passed profile (list s) (key s) e ∙ looked-absent (key s) ss (c .before .before .if1 .left) (sym (at .present) ∙ c .if2 .left)) }
 
 pub look-up-spec : {M : Type 1} → statement M
 look-up-spec = tie.close (tie.spec returns locate-requires returns-2 returns-3)

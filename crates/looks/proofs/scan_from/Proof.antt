@@ -11,6 +11,7 @@ use Rattle.slots.specs.Segments.{Segments, keys, segmentsOf}
 use Rattle.slots.specs.Keys.{above}
 use Rattle.slots.specs.Shown.{Shows, Located, CountsOf}
 use Rattle.slots.proofs.Tallies.{shown-within}
+use Rattle.rules.specs.Checks.{checkList}
 use Rattle.rules.proofs.Requests.Shown.{shows-passed, long-passed}
 use Rattle.scans.specs.declared.Written.{Written}
 use Rattle.scans.specs.Scans.{Wrote, keysFrom}
@@ -20,7 +21,7 @@ use Rattle.looks.proofs.KeysAbove.{held-there, above-absent, above-pres
 use Rattle.looks.proofs.scan_from.Statement.{statement}
 use Rattle.looks.proofs.scan_from.Tie as tie
 
--- a list that passes shows its segments
+-- a list that passes shows its segments, whatever the profile
 module _ (s : tie.Start) where
   abbrev list : List ℕ
   list = s .args .list .now
@@ -38,17 +39,17 @@ module _ (s : tie.Start) where
   ss = segmentsOf (s .args .list .now)
 
   shows : Shows ss list
-  shows = shows-passed list (s .pre .0)
+  shows = shows-passed (s .pre .0 .0) list (s .pre .0 .1)
 
   some : 0 < length ss
   some =
-      let h : 64 * 0 + 64 ≤ length list = omega (arith, long-passed list (s .pre .0)) in
+      let h : 64 * 0 + 64 ≤ length list = omega (arith, long-passed (s .pre .0 .0) list (s .pre .0 .1)) in
       shown-within ss list shows 0 h
 
 locate-requires : tie.Need-locate-requires
 locate-requires c κs =
     let s = c .before .before .before in
-    omega (arith, long-passed (list s) (s .pre .0))
+    omega (arith, long-passed (s .pre .0 .0) (list s) (s .pre .0 .1))
 
 add-at : tie.Need-add-at
 add-at c = search needs
@@ -85,8 +86,8 @@ module _ (j : tie.Joined1) where
 
   -- what is written is what a scan gives, if it is told so
   admits : (d : Written) (r : ScanAnswer) (left : List ℕ) → ((gs : Segments) → Shows gs (list z) → CountsOf gs (counts z) → Wrote (keysFrom (found .segment) (j .if1 .at) gs) (output z) d left)
-      → Tells d r → ScanAdmits (list z) (from z) (output z) r left
-  admits d r left w t = wrote-admits (list z) (from z) (output z) _ d r left (z .pre .0) (begins .0) (w (ss z) (shows z) (z .pre .2)) t
+      → Tells d r → (profile : ℕ) → checkList profile (list z) ≡ 0 → ScanAdmits profile (list z) (from z) (output z) r left
+  admits d r left w t profile e = wrote-admits profile (list z) (from z) (output z) _ d r left e (begins .0) (w (ss z) (shows z) (z .pre .2)) t
 
 write-keys-requires : tie.Need-write-keys-requires
 write-keys-requires c κs =
@@ -95,7 +96,7 @@ write-keys-requires c κs =
       j .before .locate .ensures .0 .0,
       s .pre .1,
       omega (arith, held j, begins j .1),
-      few-counted (list s) (counts s) (s .pre .0) (s .pre .2),
+      few-counted (s .pre .0 .0) (list s) (counts s) (s .pre .0 .1) (s .pre .2),
     )
 
 same-length : tie.Need-same-length

@@ -11,7 +11,7 @@ use Rattle.checks.specs.Listings.{BothLooked}
 use Rattle.checks.proofs.Numbers.{refused-some}
 use Rattle.aims.specs.Aims.{Stands}
 use Rattle.aims.proofs.Standing.{small-stands}
-use Rattle.opening.proofs.Ready.{ready-stands, ready-index}
+use Rattle.opening.proofs.Ready.{ready-passes, ready-stands, ready-ends, ready-index}
 use borrow.Author.Needs.{needs}
 use Rattle.opening.proofs.work_lent.Statement.{statement}
 use Rattle.opening.proofs.work_lent.Tie as tie
@@ -45,6 +45,9 @@ enum-told-2 c = search needs
 
 -- the check accepts
 module _ (c : tie.After-shape) where
+  abbrev number : ℕ
+  number = c .before .before .before .before .before .before .before .before .before .args .profile
+
   abbrev list : List ℕ
   list = c .before .before .before .before .before .before .before .before .before .args .list .now
 
@@ -54,14 +57,14 @@ module _ (c : tie.After-shape) where
   abbrev listing : Listing
   listing = c .before .before .before .before .look-over-both .result
 
-  looked : BothLooked list told listing
+  looked : BothLooked number list told listing
   looked = c .before .before .before .before .look-over-both .ensures .0
 
   accepted : listing .verdict ≡ Accepted
   accepted = c .before .enum-told2 .given .1
 
   stands : Stands list told (listing .shape) (listing .keys)
-  stands = ready-stands list told listing looked accepted
+  stands = ready-stands number list told listing looked accepted
 
 slice-aggregate-bound : tie.Need-slice-aggregate-bound
 slice-aggregate-bound c = search needs
@@ -82,7 +85,7 @@ work-requires : tie.Need-work-requires
 work-requires c κs =
     let a = c .before .before .before .before .before .before .before .before in (
       stands a,
-      ready-index (list a) (told a) (listing a) (looked a) (accepted a) _ _ (c .before .before .before .before .before .bound .ensures) (a .before .before .before .before .look-over-both .ensures .1),
+      ready-index (number a) (list a) (told a) (listing a) (looked a) (accepted a) _ _ (c .before .before .before .before .before .bound .ensures) (a .before .before .before .before .look-over-both .ensures .1),
       refl,
     )
 
@@ -93,7 +96,10 @@ returns-2 : tie.Need-returns-2
 returns-2 c =
     let work = c .before .before .before .before .before in
     let a = work .before .before .before .before .before .before .before .before .before in
-    record { refused = λ n. absurd (n (stands a .passes)); ended = λ e. work .work .ensures }
+    record {
+      refused = λ n. absurd (n (ready-passes (number a) (list a) (told a) (listing a) (looked a) (accepted a)));
+      ended = λ e. ready-ends (number a) (list a) (told a) (listing a) (looked a) (accepted a) (work .work .ensures);
+    }
 
 pub work-lent-spec : {M : Type 1} → statement M
 work-lent-spec =

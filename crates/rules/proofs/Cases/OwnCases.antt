@@ -10,6 +10,7 @@ use Rattle.slots.specs.Keys.{predecessor, segmentOf}
 use Rattle.cells.specs.Cells.{cell, weight}
 use Rattle.cells.specs.Steps.{raised, tailed, noted, dropped, retargeted}
 use Rattle.rules.specs.declared.Request.the-variants.{Insert, Delete}
+use Rattle.rules.specs.declared.Profile.the-variants.{First}
 use Rattle.rules.specs.Shares.{shares}
 use Rattle.rules.specs.SharingOut.{leftShare, plan, shareOut}
 use Rattle.rules.specs.Placing.{Room, sweep, chosen, settled, insertLevel, insertKey, deleteLevel, deleteKey, outcome}
@@ -71,19 +72,19 @@ abbrev ownCases : List Case
 ownCases = notesFirst ∷ frontLeft ∷ frontElsewhere ∷ crowdedWindow ∷ fractions ∷ shifts ∷ eighthCell ∷ noNinthCell ∷ []
 
 abbrev right : Case → Bool
-right c = same (gives c) (says c)
+right c = same (gives First c) (says c)
 
-pub own-cases : (c : Case) → Mem c ownCases → gives c ≡ says c
+pub own-cases : (c : Case) → Mem c ownCases → gives First c ≡ says c
 unfolding without predecessor segmentOf weight raised tailed noted dropped retargeted leftShare plan shareOut sweep chosen settled insertLevel insertKey deleteLevel deleteKey outcome
-own-cases c m = same→eq (gives c) (says c) (all-at right ownCases tt c m)
+own-cases c m = same→eq (gives First c) (says c) (all-at right ownCases tt c m)
 
 -- A cell whose marker a sweep takes to another segment names the new one.
-pub aims-again : outcome (shares 2) (Insert 3) (room (evens ∷ [] ∷ [] ∷ [] ∷ []) (cell 128 0 1 ∷ [])) .room .cells ≡ cell 2 0 1 ∷ cell 128 1 1 ∷ []
+pub aims-again : outcome (shares First 2) (Insert 3) (room (evens ∷ [] ∷ [] ∷ [] ∷ []) (cell 128 0 1 ∷ [])) .room .cells ≡ cell 2 0 1 ∷ cell 128 1 1 ∷ []
 unfolding without predecessor segmentOf weight raised tailed noted dropped retargeted leftShare plan shareOut sweep chosen settled insertLevel insertKey deleteLevel deleteKey outcome
 aims-again = refl
 
 -- A sweep is told, and its absence.
-pub swept-told : (outcome (shares 2) (Insert 3) (room (evens ∷ [] ∷ [] ∷ [] ∷ []) []) .swept ≡ true)
-    × (outcome (shares 1) (Insert 15) (room ((10 ∷ []) ∷ [] ∷ []) []) .swept ≡ false)
+pub swept-told : (outcome (shares First 2) (Insert 3) (room (evens ∷ [] ∷ [] ∷ [] ∷ []) []) .swept ≡ true)
+    × (outcome (shares First 1) (Insert 15) (room ((10 ∷ []) ∷ [] ∷ []) []) .swept ≡ false)
 unfolding without predecessor segmentOf weight raised tailed noted dropped retargeted leftShare plan shareOut sweep chosen settled insertLevel insertKey deleteLevel deleteKey outcome
 swept-told = (refl, refl)

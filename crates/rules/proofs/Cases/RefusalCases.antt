@@ -10,11 +10,12 @@ use Rattle.forecast.specs.declared.Forecast.{Forecast}
 use Rattle.forecast.specs.Cells.{cells}
 use Rattle.forecast.specs.Faults.{faultAt, faultOf}
 use Rattle.rules.specs.declared.Request.the-variants.{Insert}
+use Rattle.rules.specs.declared.Profile.the-variants.{First}
 use Rattle.rules.specs.Shares.{shares}
 use Rattle.rules.specs.Placing.{outcome}
 use Rattle.rules.specs.Looking.{lookedUp}
 use Rattle.rules.specs.Checks.{checkList, check}
-use Rattle.rules.specs.Calls.{lookup}
+use Rattle.rules.specs.Calls.{make, lookup}
 use Rattle.rules.specs.Sums.{room, upFrom}
 
 -- slots of height 1, with a and b keys in their segments
@@ -26,38 +27,61 @@ abbrev uncounted : Forecast
 uncounted = record { markers = replicate 12 0; segments = replicate 12 0; counts = replicate 12 0; used = 1 }
 
 -- 64 keys are allowed at height 1, and 65 are not
-full-passes : checkList (slots 33 31) ≡ 0
+full-passes : checkList 1 (slots 33 31) ≡ 0
 unfolding checkList heightOf orderOf
 full-passes = refl
 
-over-full : checkList (slots 33 32) ≡ 3
+over-full : checkList 1 (slots 33 32) ≡ 3
 unfolding checkList heightOf orderOf
 over-full = refl
 
+-- in the second profile 88 are, and 89 are not; a segment may be lent with up to 64
+second-passes : checkList 2 (slots 44 44) ≡ 0
+unfolding checkList heightOf orderOf
+second-passes = refl
+
+second-over-full : checkList 2 (slots 45 44) ≡ 3
+unfolding checkList heightOf orderOf
+second-over-full = refl
+
+crowded-passes : checkList 2 (slots 64 24) ≡ 0
+unfolding checkList heightOf orderOf
+crowded-passes = refl
+
+-- a list of the second profile may be too full for the first
+handed-over : (checkList 2 (slots 33 32) ≡ 0) × (checkList 1 (slots 33 32) ≡ 3)
+unfolding checkList heightOf orderOf
+handed-over = (refl, refl)
+
+-- an unknown profile is told before a wrong length
+profile-told-first : (checkList 0 [] ≡ 15) × (checkList 3 (slots 1 0) ≡ 15) × (checkList 1 [] ≡ 1) × (make 3 [] .number ≡ 15)
+unfolding checkList heightOf orderOf make
+profile-told-first = (refl, refl, refl, refl)
+
 -- a bad forecast is told of a good list, and not of a bad one
-forecast-told : check (slots 33 31) uncounted ≡ 4
+forecast-told : check 1 (slots 33 31) uncounted ≡ 4
 unfolding check checkList heightOf orderOf faultOf faultAt cells segmentsOf segmentOf
 forecast-told = refl
 
-list-told-first : check (slots 33 32) uncounted ≡ 3
+list-told-first : check 1 (slots 33 32) uncounted ≡ 3
 unfolding check checkList heightOf orderOf faultOf faultAt cells segmentsOf segmentOf
 list-told-first = refl
 
 -- key 0 is refused, not absent
-key-zero : lookup (slots 1 0) 0 .number ≡ 5
+key-zero : lookup 1 (slots 1 0) 0 .number ≡ 5
 unfolding lookup lookedUp checkList heightOf orderOf segmentsOf segmentOf
 key-zero = refl
 
 -- a full list tells a present key first, and takes no other though its segment has room
-present-before-full : outcome (shares 1) (Insert 1) (room (segmentsOf (slots 33 31)) []) .answer .number ≡ 6
+present-before-full : outcome (shares First 1) (Insert 1) (room (segmentsOf (slots 33 31)) []) .answer .number ≡ 6
 unfolding outcome segmentsOf
 present-before-full = refl
 
-full-by-keys : outcome (shares 1) (Insert 50) (room (segmentsOf (slots 33 31)) []) .answer .number ≡ 8
+full-by-keys : outcome (shares First 1) (Insert 50) (room (segmentsOf (slots 33 31)) []) .answer .number ≡ 8
 unfolding outcome segmentsOf
 full-by-keys = refl
 
 -- lookup tells the segment of a key that is there
-in-segment : lookup (slots 1 1) 101 .segment ≡ 1
+in-segment : lookup 1 (slots 1 1) 101 .segment ≡ 1
 unfolding lookup lookedUp checkList heightOf orderOf segmentsOf segmentOf
 in-segment = refl

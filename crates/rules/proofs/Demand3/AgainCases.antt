@@ -13,6 +13,8 @@ use Rattle.cells.specs.Cells.{cell, weight}
 use Rattle.cells.specs.Steps.{raised, tailed, noted, dropped, retargeted}
 use Rattle.rules.specs.declared.Request.{Request}
 use Rattle.rules.specs.declared.Request.the-variants.{Insert, Delete}
+use Rattle.rules.specs.declared.Profile.{Profile}
+use Rattle.rules.specs.declared.Profile.the-variants.{First, Second}
 use Rattle.rules.specs.Shares.{shares}
 use Rattle.rules.specs.SharingOut.{leftShare, plan, shareOut}
 use Rattle.rules.specs.Placing.{Room, sweep, chosen, settled, insertLevel, insertKey, deleteLevel, deleteKey, outcome}
@@ -32,21 +34,21 @@ abbrev bare : Request → Turn
 bare q = record { request = q; cells = [] }
 
 -- Of a window that is swept again: the half round segment s, and what it has taken.
-pub record AgainCase (h l s : ℕ) (all : List Event) (ups downs : ℕ) : Type 0 where
+pub record AgainCase (p : Profile) (h l s : ℕ) (all : List Event) (ups downs : ℕ) : Type 0 where
   pub e₀ : Event
   pub es : List Event
   pub e : Event
   pub again : SweptAgain all l s e₀ es e
   pub inserted : inserts l s (counting e₀ es e) ≡ ups
   pub deleted : deletes l s (counting e₀ es e) ≡ downs
-  pub taken : Taken (shares h) l s (counting e₀ es e)
+  pub taken : Taken (shares p h) l s (counting e₀ es e)
 
 -- h = 1, segments 1 to 7 and 101 to 130, which a delete evens out. Eight inserts in segment 1, then deletes in segment 0: the twelfth sweeps
 -- again, and the gap between the low shares is 6.
 abbrev deleting : List Request
 deleting = Delete 1 ∷ (map Insert (upFrom 200 8) ++ (map Delete (upFrom 2 6 ++ upFrom 101 5) ++ (Delete 106 ∷ [])))
 
-pub by-deletes : AgainCase 1 0 0 (events (shares 1) (map bare deleting) (pair 7 30 .segments)) 0 12
+pub by-deletes : AgainCase First 1 0 0 (events (shares First 1) (map bare deleting) (pair 7 30 .segments)) 0 12
 unfolding without predecessor segmentOf weight raised tailed noted dropped retargeted leftShare plan shareOut sweep chosen settled insertLevel insertKey deleteLevel deleteKey outcome
 by-deletes = record {
   e₀ = shrinks 0 (some 1);
@@ -63,7 +65,7 @@ by-deletes = record {
 abbrev inserting : List Request
 inserting = Insert 129 ∷ map (λ n. Insert (2 * n + 1)) (upFrom 0 17)
 
-pub by-inserts : AgainCase 2 0 0 (events (shares 2) (map bare inserting) (map (λ n. 2 * n) (upFrom 1 64) ∷ [] ∷ [] ∷ [] ∷ [])) 17 0
+pub by-inserts : AgainCase First 2 0 0 (events (shares First 2) (map bare inserting) (map (λ n. 2 * n) (upFrom 1 64) ∷ [] ∷ [] ∷ [] ∷ [])) 17 0
 unfolding without predecessor segmentOf weight raised tailed noted dropped retargeted leftShare plan shareOut sweep chosen settled insertLevel insertKey deleteLevel deleteKey outcome
 by-inserts = record {
   e₀ = grows 0 (some 1);
@@ -83,12 +85,46 @@ risen = room (upFrom 1 64 ∷ [] ∷ [] ∷ [] ∷ []) (map (λ x. cell x 0 1) (
 abbrev handed : List Turn
 handed = record { request = Insert 65; cells = risen .cells } ∷ map bare (map Insert (upFrom 66 48))
 
-pub by-other-hands : AgainCase 2 0 1 (events (shares 2) handed (risen .segments)) 48 0
+pub by-other-hands : AgainCase First 2 0 1 (events (shares First 2) handed (risen .segments)) 48 0
 unfolding without predecessor segmentOf weight raised tailed noted dropped retargeted leftShare plan shareOut sweep chosen settled insertLevel insertKey deleteLevel deleteKey outcome
 by-other-hands = record {
   e₀ = grows 0 (some 1);
   es = replicate 47 (grows 1 none);
   e = grows 1 (some 2);
+  again = record { history = refl; earlier = tt; since = tt; half = tt; again = tt };
+  inserted = refl;
+  deleted = refl;
+  taken = inl (ltb→lt _ _ tt);
+}
+
+-- IN THE SECOND PROFILE. h = 1, segments 1 to 6 and 101 to 135, which a delete evens out at 20 and 20. Fifteen inserts in segment 1, then
+-- deletes in segment 0: the fifteenth sweeps again, and the gap between the low shares is 14.
+abbrev thinning : List Request
+thinning = Delete 1 ∷ (map Insert (upFrom 200 15) ++ map Delete (upFrom 2 5 ++ upFrom 101 10))
+
+pub second-by-deletes : AgainCase Second 1 0 0 (events (shares Second 1) (map bare thinning) (pair 6 35 .segments)) 0 15
+unfolding without predecessor segmentOf weight raised tailed noted dropped retargeted leftShare plan shareOut sweep chosen settled insertLevel insertKey deleteLevel deleteKey outcome
+second-by-deletes = record {
+  e₀ = shrinks 0 (some 1);
+  es = replicate 15 (grows 1 none) ++ replicate 14 (shrinks 0 none);
+  e = shrinks 0 (some 1);
+  again = record { history = refl; earlier = tt; since = tt; half = tt; again = tt };
+  inserted = refl;
+  deleted = refl;
+  taken = inr (ltb→lt _ _ tt);
+}
+
+-- h = 2, the even numbers to 116 in segment 0: an insert behind the last leaves 46 keys there. The 13th insert before them sweeps again, and
+-- the gap between the high shares is 7.
+abbrev crowding : List Request
+crowding = Insert 117 ∷ map (λ n. Insert (2 * n + 1)) (upFrom 0 13)
+
+pub second-by-inserts : AgainCase Second 2 0 0 (events (shares Second 2) (map bare crowding) (map (λ n. 2 * n) (upFrom 1 58) ∷ [] ∷ [] ∷ [] ∷ [])) 13 0
+unfolding without predecessor segmentOf weight raised tailed noted dropped retargeted leftShare plan shareOut sweep chosen settled insertLevel insertKey deleteLevel deleteKey outcome
+second-by-inserts = record {
+  e₀ = grows 0 (some 1);
+  es = replicate 12 (grows 0 none);
+  e = grows 0 (some 1);
   again = record { history = refl; earlier = tt; since = tt; half = tt; again = tt };
   inserted = refl;
   deleted = refl;

@@ -9,6 +9,7 @@ use Rattle.lists.specs.Choice.{if_then_else_}
 use Rattle.slots.specs.Segments.{heightOf, segmentsOf, keys}
 use Rattle.slots.specs.Keys.{member, segmentOf}
 use Rattle.forecast.specs.Cells.{forecastOf}
+use Rattle.rules.specs.Profiles.{isProfile}
 use Rattle.rules.specs.Placing.{Outcome, outcome}
 use Rattle.rules.specs.Looking.{Found, notFound, lookedUp, Scanned, scanned}
 use Rattle.rules.specs.Checks.{sharesOf, checkList, check}
@@ -18,13 +19,13 @@ use Rattle.rules.specs.Demand1.{RequestRefused, LookupRefused, ScanRefus
 -- an insert or delete
 pub request-refused : RequestRefused
 unfolding request
-request-refused q slots F = go (eqb (check slots F) 0) (eqb (o .answer .number) 0) (eqb→eq _ 0)
+request-refused profile q slots F = go (eqb (check profile slots F) 0) (eqb (o .answer .number) 0) (eqb→eq _ 0)
   where
     o : Outcome
-    o = outcome (sharesOf slots) q (roomOf slots F)
+    o = outcome (sharesOf profile slots) q (roomOf slots F)
 
     r : Bool → Bool → Called
-    r a b = if not a then unchanged slots F (check slots F) else if not b then unchanged slots F (o .answer .number) else changed o
+    r a b = if not a then unchanged slots F (check profile slots F) else if not b then unchanged slots F (o .answer .number) else changed o
 
     go : (a b : Bool) → (T b → o .answer .number ≡ 0) → r a b .answer .number ≢ 0 → r a b ≡ unchanged slots F (r a b .answer .number)
     go false b e n = refl
@@ -34,11 +35,11 @@ request-refused q slots F = go (eqb (check slots F) 0) (eqb (o .answer .number) 
 -- a lookup
 pub lookup-refused : LookupRefused
 unfolding lookup lookedUp
-lookup-refused slots y = go (eqb (checkList slots) 0) (eqb y 0) (member y (keys (segmentsOf slots)))
+lookup-refused profile slots y = go (eqb (checkList profile slots) 0) (eqb y 0) (member y (keys (segmentsOf slots)))
   where
     r : Bool → Bool → Bool → Found
     r a b c =
-        if not a then notFound (checkList slots)
+        if not a then notFound (checkList profile slots)
         else if b then notFound 5
         else if c then record { number = 0; present = true; segment = segmentOf (segmentsOf slots) y }
         else notFound 0
@@ -52,10 +53,10 @@ lookup-refused slots y = go (eqb (checkList slots) 0) (eqb y 0) (member y (keys 
 -- a scan
 pub scan-refused : ScanRefused
 unfolding scan scanned
-scan-refused slots a out = go (eqb (checkList slots) 0)
+scan-refused profile slots a out = go (eqb (checkList profile slots) 0)
   where
     none : Scanned
-    none = record { number = checkList slots; written = 0; more = false; output = out }
+    none = record { number = checkList profile slots; written = 0; more = false; output = out }
 
     r : Bool → Scanned
     r c = if not c then none else scanned a (segmentsOf slots) out
@@ -67,13 +68,15 @@ scan-refused slots a out = go (eqb (checkList slots) 0)
 -- making empty
 pub make-refused : MakeRefused
 unfolding make
-make-refused slots = go (eqb (heightOf (length slots)) 0)
+make-refused profile slots = go (isProfile profile) (eqb (heightOf (length slots)) 0)
   where
-    r : Bool → Made
-    r c =
-        if c then record { slots = slots; forecast = forecastOf []; number = 1 }
+    r : Bool → Bool → Made
+    r n c =
+        if not n then record { slots = slots; forecast = forecastOf []; number = 15 }
+        else if c then record { slots = slots; forecast = forecastOf []; number = 1 }
         else record { slots = replicate (length slots) 0; forecast = forecastOf []; number = 0 }
 
-    go : (c : Bool) → r c .number ≢ 0 → r c ≡ record { slots = slots; forecast = forecastOf []; number = 1 }
-    go true n = refl
-    go false n = absurd (n refl)
+    go : (n c : Bool) → r n c .number ≢ 0 → r n c ≡ record { slots = slots; forecast = forecastOf []; number = r n c .number }
+    go false c e = refl
+    go true true e = refl
+    go true false e = absurd (e refl)

@@ -31,10 +31,10 @@ use Rattle.rules.proofs.Requests.Checked.{Passed, keys-shown}
 use Rattle.rules.proofs.Refusals.RowsInOrder.{Decides}
 use Rattle.rules.proofs.Refusals.Rows.{in-slot}
 
-module _ (slots : List ℕ) (K : Passed slots) where
+module _ (profile : ℕ) (slots : List ℕ) (K : Passed profile slots) where
   -- a key of the segments is not 0
   mem-key : (x : ℕ) → Mem x (keys (segmentsOf slots)) → x ≢ 0
-  mem-key x m = omega (arith, live-key slots x (subst (Mem x) (keys-shown slots K) m))
+  mem-key x m = omega (arith, live-key slots x (subst (Mem x) (keys-shown profile slots K) m))
 
   -- a marker's segment: that of its slot, and 0 for the front
   slot-segment : (x t : ℕ) → x ≢ 0 → t < length slots → slotAt slots t ≡ x → segmentOf (segmentsOf slots) x ≡ t / 64
@@ -51,7 +51,7 @@ module _ (slots : List ℕ) (K : Passed slots) where
     misplaced-wrong c (inl e) n = inl (e, λ s. n (s ∙ sym (front-segment (c .marker) e)))
     misplaced-wrong c (inr m) n =
         let k : c .marker ≢ 0 = mem-key (c .marker) m in
-        let p = in-slot slots K (c .marker) k .0 m in
+        let p = in-slot profile slots K (c .marker) k .0 m in
         inr (k, (p .0, p .1, p .2, λ s. n (s ∙ sym (slot-segment (c .marker) (p .0) k (p .1) (p .2)))))
 
     -- a fault that was found, in words about single slots and cells
@@ -60,7 +60,7 @@ module _ (slots : List ℕ) (K : Passed slots) where
     in-words (BadBy.noCount i h n) = badCell i h (noCount n)
     in-words (BadBy.overCount i h n) = badCell i h (overCount n)
     in-words (BadBy.repeated i j l h k e) = badCell i h (anothers j (omega arith) (omega arith) e)
-    in-words (BadBy.notLive i h a b) = badCell i h (notLive (a, λ t l e. b (in-slot slots K (cellOf F i .marker) a .1 (t, l, e))))
+    in-words (BadBy.notLive i h a b) = badCell i h (notLive (a, λ t l e. b (in-slot profile slots K (cellOf F i .marker) a .1 (t, l, e))))
     in-words (BadBy.misplaced i h m n) = badCell i h (wrongSegment (misplaced-wrong (cellOf F i) m n))
     in-words (BadBy.notZero i h l n) = notZero i h l n
 
@@ -77,13 +77,13 @@ module _ (slots : List ℕ) (K : Passed slots) where
     wrong-misplaced : (i : ℕ) → i < F .used → WrongSegment slots (cellOf F i) → BadBy P (segmentsOf slots) F
     wrong-misplaced i h (inl (z, s)) = BadBy.misplaced i h (inl z) (λ e. s (e ∙ front-segment (cellOf F i .marker) z))
     wrong-misplaced i h (inr (k, (t, l, e, s))) =
-        BadBy.misplaced i h (inr (in-slot slots K (cellOf F i .marker) k .1 (t, l, e))) (λ q. s (q ∙ slot-segment (cellOf F i .marker) t k l e))
+        BadBy.misplaced i h (inr (in-slot profile slots K (cellOf F i .marker) k .1 (t, l, e))) (λ q. s (q ∙ slot-segment (cellOf F i .marker) t k l e))
 
     cell-found : Roomy F → P ≤ 12 → (i : ℕ) → i < F .used → BadCell P slots F i → BadBy P (segmentsOf slots) F
     cell-found r p i h (noCount n) = BadBy.noCount i h n
     cell-found r p i h (overCount n) = BadBy.overCount i h n
     cell-found r p i h (anothers j k n e) = twice r p i j h k n e
-    cell-found r p i h (notLive (a, b)) = BadBy.notLive i h a (λ m. let q = in-slot slots K (cellOf F i .marker) a .0 m in b (q .0) (q .1) (q .2))
+    cell-found r p i h (notLive (a, b)) = BadBy.notLive i h a (λ m. let q = in-slot profile slots K (cellOf F i .marker) a .0 m in b (q .0) (q .1) (q .2))
     cell-found r p i h (wrongSegment w) = wrong-misplaced i h w
 
     -- and the other way round
@@ -93,17 +93,17 @@ module _ (slots : List ℕ) (K : Passed slots) where
     found r p (notZero i h l n) = BadBy.notZero i h l n
 
   -- row 4, beside a list that has passed its check
-  pub decides-4 : (F : Forecast) → Roomy F → Decides (not (isSound (faultOf (cellsOf (sharesOf slots)) (segmentsOf slots) F))) (row4 slots F)
+  pub decides-4 : (F : Forecast) → Roomy F → Decides (not (isSound (faultOf (cellsOf (sharesOf profile slots)) (segmentsOf slots) F))) (row4 slots F)
   decides-4 F r = (
     λ t. (heightOf (length slots), K .number, in-words P F (fault-bad P (segmentsOf slots) F t)),
     λ t w. T-not (not (isSound (faultOf P (segmentsOf slots) F))) t (bad-fault P (segmentsOf slots) F r few (found P F r few (same w))),
   )
     where
       P : ℕ
-      P = cellsOf (sharesOf slots)
+      P = cellsOf (sharesOf profile slots)
 
-      few : cellsOf (sharesOf slots) ≤ 12
+      few : cellsOf (sharesOf profile slots) ≤ 12
       few = omega (arith, K .to)
 
-      same : row4 slots F .when → BadForecast (cellsOf (sharesOf slots)) slots F
+      same : row4 slots F .when → BadForecast (cellsOf (sharesOf profile slots)) slots F
       same w = subst (λ (h : ℕ). BadForecast (6 + h) slots F) (height-one (length slots) (w .0) (heightOf (length slots)) (w .1) (K .number)) (w .2)

@@ -6,7 +6,7 @@ use borrow.Author.Tests.{ne-eqb}
 use lib.Dec.{eqb}
 use Rattle.lists.specs.Choice.{if_then_else_}
 use Rattle.rules.specs.declared.Refusal.{Refusal}
-use Rattle.rules.specs.declared.Refusal.the-variants.{WrongLength, WrongOrder, TooManyKeys, WrongForecast, KeyZero, KeyPresent, KeyAbsent, Full, BadRecord, AllowancePassed}
+use Rattle.rules.specs.declared.Refusal.the-variants.{UnknownProfile, WrongLength, WrongOrder, TooManyKeys, WrongForecast, KeyZero, KeyPresent, KeyAbsent, Full, BadRecord, AllowancePassed}
 use Rattle.rules.specs.declared.Verdict.{Verdict}
 use Rattle.rules.specs.declared.Verdict.the-variants.{Refused, Accepted}
 use Rattle.rules.specs.Refusals.{refusalNumber, verdictNumber}
@@ -14,7 +14,8 @@ use Rattle.rules.specs.Refusals.{refusalNumber, verdictNumber}
 -- THE REFUSAL OF A NUMBER
 abbrev named : ℕ → Refusal
 named n =
-    if eqb n 1 then WrongLength
+    if eqb n 15 then UnknownProfile
+    else if eqb n 1 then WrongLength
     else if eqb n 2 then WrongOrder
     else if eqb n 3 then TooManyKeys
     else if eqb n 4 then WrongForecast
@@ -27,6 +28,7 @@ named n =
 
 -- it has one, and is read back from it
 back : (x : Refusal) → (0 < refusalNumber x) × (named (refusalNumber x) ≡ x)
+back UnknownProfile = (omega arith, refl)
 back WrongLength = (omega arith, refl)
 back WrongOrder = (omega arith, refl)
 back TooManyKeys = (omega arith, refl)

@@ -9,7 +9,6 @@ use lib.Dec.{T, ltb, eqb, eqb→eq, nltb→le}
 use borrow.Author.Tests.{le-ltb, ne-eqb}
 use lib.ListN.{length}
 use Rattle.lists.specs.Choice.{if_then_else_}
-use Rattle.lists.specs.Lists.{All}
 use Rattle.lists.proofs.Tests.{neqb→ne, is-true}
 use Rattle.slots.specs.Segments.{keys, live, heightOf, segmentsOf, render}
 use Rattle.slots.specs.Orders.{orderOf, isKept}
@@ -21,57 +20,59 @@ use Rattle.forecast.specs.Cells.{usedCells, forecastOf}
 use Rattle.forecast.specs.Faults.{faultOf, isSound}
 use Rattle.forecast.proofs.Laws.{used-forecastOf}
 use Rattle.forecast.proofs.Faults.{sound-ruled, sound-whole, ruled-sound}
+use Rattle.rules.specs.Profiles.{isProfile, profileOf}
 use Rattle.rules.specs.Shares.{shares, capacity, cellsOf}
 use Rattle.rules.specs.Placing.{Room}
 use Rattle.rules.specs.Checks.{sharesOf, checkList, check}
 use Rattle.rules.specs.Calls.{roomOf}
 use Rattle.forecast.specs.Tidy.{Roomy}
 use Rattle.rules.specs.Readings.{Proper}
-use Rattle.rules.proofs.Sharing.Table.{ends}
 use Rattle.rules.proofs.Requests.StaysGood.{Good}
 
 -- WHAT PASSES
-pub record Passed (slots : List ℕ) : Type 0 where
+pub record Passed (profile : ℕ) (slots : List ℕ) : Type 0 where
+  pub known : T (isProfile profile)
   pub from : 1 ≤ heightOf (length slots)
   pub to : heightOf (length slots) ≤ 6
   pub number : length slots ≡ 64 * 2 ^ heightOf (length slots)
   pub ordered : Ordered slots
   pub solid : Solid slots
-  pub room : length (live slots) ≤ capacity (sharesOf slots)
+  pub room : length (live slots) ≤ capacity (sharesOf profile slots)
 
-pub passed : (slots : List ℕ) → checkList slots ≡ 0 → Passed slots
+pub passed : (profile : ℕ) (slots : List ℕ) → checkList profile slots ≡ 0 → Passed profile slots
 unfolding checkList
-passed slots e =
-    go (eqb (heightOf (length slots)) 0) (neqb→ne (heightOf (length slots)) 0) (isKept (orderOf slots)) (kept→ slots)
-    (ltb (capacity (sharesOf slots)) (length (live slots))) (nltb→le _ _) e
+passed profile slots e =
+    go (isProfile profile) refl (eqb (heightOf (length slots)) 0) (neqb→ne (heightOf (length slots)) 0) (isKept (orderOf slots)) (kept→ slots)
+    (ltb (capacity (sharesOf profile slots)) (length (live slots))) (nltb→le _ _) e
   where
-    go : (a : Bool) → (T (not a) → heightOf (length slots) ≢ 0) → (b : Bool) → (T b → Ordered slots × Solid slots)
-        → (c : Bool) → (T (not c) → length (live slots) ≤ capacity (sharesOf slots)) → _≡_ {A = ℕ} (if a then 1 else if not b then 2 else if c then 3 else 0) 0 → Passed slots
-    go true p b q c r e = absurd (omega arith)
-    go false p false q c r e = absurd (omega arith)
-    go false p true q true r e = absurd (omega arith)
-    go false p true q false r e =
+    go : (n : Bool) → isProfile profile ≡ n → (a : Bool) → (T (not a) → heightOf (length slots) ≢ 0) → (b : Bool) → (T b → Ordered slots × Solid slots)
+        → (c : Bool) → (T (not c) → length (live slots) ≤ capacity (sharesOf profile slots)) → _≡_ {A = ℕ} (if not n then 15 else if a then 1 else if not b then 2 else if c then 3 else 0) 0 → Passed profile slots
+    go false k a p b q c r e = absurd (omega arith)
+    go true k true p b q c r e = absurd (omega arith)
+    go true k false p false q c r e = absurd (omega arith)
+    go true k false p true q true r e = absurd (omega arith)
+    go true k false p true q false r e =
         elim (height-cases (length slots)) [
           | inl z ↦ absurd (p tt (z .0))
-          | inr z ↦ record { from = z .0; to = z .1; number = z .2; ordered = q tt .0; solid = q tt .1; room = r tt }
+          | inr z ↦ record { known = rw k tt; from = z .0; to = z .1; number = z .2; ordered = q tt .0; solid = q tt .1; room = r tt }
         ]
 
 -- list and forecast
-pub both-pass : (slots : List ℕ) (F : Forecast) → check slots F ≡ 0 → (checkList slots ≡ 0) × T (isSound (faultOf (cellsOf (sharesOf slots)) (segmentsOf slots) F))
+pub both-pass : (profile : ℕ) (slots : List ℕ) (F : Forecast) → check profile slots F ≡ 0 → (checkList profile slots ≡ 0) × T (isSound (faultOf (cellsOf (sharesOf profile slots)) (segmentsOf slots) F))
 unfolding check
-both-pass slots F e = go (eqb (checkList slots) 0) (eqb→eq _ _) (neqb→ne _ _) (isSound (faultOf (cellsOf (sharesOf slots)) (segmentsOf slots) F)) e
+both-pass profile slots F e = go (eqb (checkList profile slots) 0) (eqb→eq _ _) (neqb→ne _ _) (isSound (faultOf (cellsOf (sharesOf profile slots)) (segmentsOf slots) F)) e
   where
-    go : (a : Bool) → (T a → checkList slots ≡ 0) → (T (not a) → checkList slots ≢ 0) → (b : Bool) → _≡_ {A = ℕ} (if not a then checkList slots else if not b then 4 else 0) 0
-        → (checkList slots ≡ 0) × T b
+    go : (a : Bool) → (T a → checkList profile slots ≡ 0) → (T (not a) → checkList profile slots ≢ 0) → (b : Bool) → _≡_ {A = ℕ} (if not a then checkList profile slots else if not b then 4 else 0) 0
+        → (checkList profile slots ≡ 0) × T b
     go true p q true e = (p tt, tt)
     go true p q false e = absurd (omega arith)
     go false p q b e = absurd (q tt e)
 
-pub list-passes : (slots : List ℕ) (F : Forecast) → check slots F ≡ 0 → checkList slots ≡ 0
-list-passes slots F e = both-pass slots F e .0
+pub list-passes : (profile : ℕ) (slots : List ℕ) (F : Forecast) → check profile slots F ≡ 0 → checkList profile slots ≡ 0
+list-passes profile slots F e = both-pass profile slots F e .0
 
-module _ (slots : List ℕ) (P : Passed slots) where
-  pub proper-segments : Proper (sharesOf slots) (segmentsOf slots)
+module _ (profile : ℕ) (slots : List ℕ) (P : Passed profile slots) where
+  pub proper-segments : Proper (sharesOf profile slots) (segmentsOf slots)
   proper-segments = record {
     size = length-segments slots (2 ^ heightOf (length slots)) (P .number);
     listed = listed-segments slots (2 ^ heightOf (length slots)) (P .number) (P .ordered);
@@ -83,65 +84,66 @@ module _ (slots : List ℕ) (P : Passed slots) where
   pub slots-rendered : render 0 (segmentsOf slots) ≡ slots
   slots-rendered = render-segments slots (2 ^ heightOf (length slots)) (P .number) (P .solid)
 
-module _ (slots : List ℕ) (F : Forecast) (e : check slots F ≡ 0) where
-  pub checked : (1 ≤ heightOf (length slots)) × (heightOf (length slots) ≤ 6) × Good (sharesOf slots) (roomOf slots F)
+module _ (profile : ℕ) (slots : List ℕ) (F : Forecast) (e : check profile slots F ≡ 0) where
+  pub checked : (1 ≤ heightOf (length slots)) × (heightOf (length slots) ≤ 6) × Good (sharesOf profile slots) (roomOf slots F)
   checked = (
-    passed slots (both-pass slots F e .0) .from,
-    passed slots (both-pass slots F e .0) .to,
+    passed profile slots (both-pass profile slots F e .0) .from,
+    passed profile slots (both-pass profile slots F e .0) .to,
     record {
-      proper = proper-segments slots p;
-      sizes = λ x m. rw (ends (heightOf (length slots)) (p .from) (p .to) .0) (sizes-segments slots (2 ^ heightOf (length slots)) (p .number) x m);
-      room = rw (keys-shown slots p) (p .room);
-      ruled = sound-ruled (cellsOf (sharesOf slots)) (segmentsOf slots) F (both-pass slots F e .1) .0;
-      placed = sound-ruled (cellsOf (sharesOf slots)) (segmentsOf slots) F (both-pass slots F e .1) .1;
+      proper = proper-segments profile slots p;
+      sizes = sizes-segments slots (2 ^ heightOf (length slots)) (p .number);
+      room = rw (keys-shown profile slots p) (p .room);
+      ruled = sound-ruled (cellsOf (sharesOf profile slots)) (segmentsOf slots) F (both-pass profile slots F e .1) .0;
+      placed = sound-ruled (cellsOf (sharesOf profile slots)) (segmentsOf slots) F (both-pass profile slots F e .1) .1;
     },
   )
     where
-      p : Passed slots
-      p = passed slots (both-pass slots F e .0)
+      p : Passed profile slots
+      p = passed profile slots (both-pass profile slots F e .0)
+
+  pub checked-known : T (isProfile profile)
+  checked-known = passed profile slots (both-pass profile slots F e .0) .known
 
   pub slots-shown : render 0 (segmentsOf slots) ≡ slots
-  slots-shown = slots-rendered slots (passed slots (both-pass slots F e .0))
+  slots-shown = slots-rendered profile slots (passed profile slots (both-pass profile slots F e .0))
 
   pub forecast-shown : Roomy F → forecastOf (usedCells F) ≡ F
   forecast-shown r =
-      sound-whole (cellsOf (sharesOf slots)) (segmentsOf slots) F (both-pass slots F e .1) r (omega (arith, passed slots (both-pass slots F e .0) .to))
+      sound-whole (cellsOf (sharesOf profile slots)) (segmentsOf slots) F (both-pass profile slots F e .1) r (omega (arith, passed profile slots (both-pass profile slots F e .0) .to))
 
 -- WHAT IS GOOD
-module _ (h : ℕ) (from : 1 ≤ h) (to : h ≤ 6) (R : Room) (G : Good (shares h) R) where
-  fits : All (λ x. length x ≤ 64) (R .segments)
-  fits x m = rw (ends h from to .0) at (G .sizes x m)
-
+module _ (profile : ℕ) (known : T (isProfile profile)) (h : ℕ) (from : 1 ≤ h) (to : h ≤ 6) (R : Room) (G : Good (shares (profileOf profile) h) R) where
   pub length-good : length (render 0 (R .segments)) ≡ 64 * 2 ^ h
-  length-good = length-render 0 (R .segments) fits ∙ ap (λ (n : ℕ). 64 * n) (G .proper .size)
+  length-good = length-render 0 (R .segments) (G .sizes) ∙ ap (λ (n : ℕ). 64 * n) (G .proper .size)
 
   pub height-render : heightOf (length (render 0 (R .segments))) ≡ h
   height-render = ap heightOf length-good ∙ height-is h from to
 
   pub room-render : roomOf (render 0 (R .segments)) (forecastOf (R .cells)) ≡ R
   room-render = λ i. record {
-    segments = segments-render (R .segments) fits (G .proper .listed .live) i;
+    segments = segments-render (R .segments) (G .sizes) (G .proper .listed .live) i;
     cells = used-forecastOf (R .cells) i;
   }
 
-  pub list-render : checkList (render 0 (R .segments)) ≡ 0
+  pub list-render : checkList profile (render 0 (R .segments)) ≡ 0
   unfolding checkList
   list-render =
       rw (
+        is-true (isProfile profile) known,
         height-render,
         ne-eqb h 0 (λ e. absurd (omega arith)),
-        is-true (isKept (orderOf (render 0 (R .segments)))) (kept-render (R .segments) fits (G .proper .listed)),
+        is-true (isKept (orderOf (render 0 (R .segments)))) (kept-render (R .segments) (G .sizes) (G .proper .listed)),
         live-render (R .segments) (G .proper .listed .live),
-        le-ltb (capacity (shares h)) (length (keys (R .segments))) (G .room),
+        le-ltb (capacity (shares (profileOf profile) h)) (length (keys (R .segments))) (G .room),
       ) refl
 
-  pub check-render : check (render 0 (R .segments)) (forecastOf (R .cells)) ≡ 0
+  pub check-render : check profile (render 0 (R .segments)) (forecastOf (R .cells)) ≡ 0
   unfolding check
   check-render =
       rw (
         list-render,
         height-render,
-        segments-render (R .segments) fits (G .proper .listed .live),
-        is-true (isSound (faultOf (cellsOf (shares h)) (R .segments) (forecastOf (R .cells))))
-            (ruled-sound (cellsOf (shares h)) (R .segments) (R .cells) (omega arith) (G .ruled) (G .placed)),
+        segments-render (R .segments) (G .sizes) (G .proper .listed .live),
+        is-true (isSound (faultOf (cellsOf (shares (profileOf profile) h)) (R .segments) (forecastOf (R .cells))))
+            (ruled-sound (cellsOf (shares (profileOf profile) h)) (R .segments) (R .cells) (omega arith) (G .ruled) (G .placed)),
       ) refl

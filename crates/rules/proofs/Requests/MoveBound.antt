@@ -4,7 +4,7 @@ use mathlib.Core.Bool.{Bool, true, false}
 use mathlib.Core.Option.{Option, none, some}
 use mathlib.Core.List.{List, [], List·Memᴰ as Mem}
 use Prim.Native.Nat.{ℕ, _+_, _^_, _≤_, _<_}
-use native.Mathlib.Nat.{pow-le-pow-right, mul-le-mul-right}
+use native.Mathlib.Nat.{pow-le-pow-right, mul-le-mul}
 use native.Mathlib.Omega.{arith}
 use lib.Dec.{T, ltb}
 use lib.ListN.{length, take, drop, getD, length-append, take-append-drop}
@@ -20,10 +20,13 @@ use Rattle.slots.proofs.Keys.{member→mem, not-member, keys-parts}
 use Rattle.cells.specs.declared.Cell.{Cell}
 use Rattle.rules.specs.declared.Request.{Request}
 use Rattle.rules.specs.declared.Request.the-variants.{Insert, Delete, Bad}
+use Rattle.rules.specs.declared.Profile.{Profile}
+use Rattle.rules.specs.declared.Profile.the-variants.{First, Second}
+use Rattle.rules.specs.Profiles.{most}
 use Rattle.rules.specs.Shares.{Shares, shares, capacity}
 use Rattle.rules.specs.Placing.{Room, Outcome, home, settled, insertKey, deleteKey, outcome}
 use Rattle.rules.specs.History.{accepted}
-use Rattle.rules.proofs.Sharing.Table.{ends}
+use Rattle.rules.proofs.Sharing.Table.{whole}
 use Rattle.rules.proofs.Requests.Accepted.{Inserts, insert-accepted, Deletes, delete-accepted, bad-refused, refused-is}
 use Rattle.rules.proofs.Requests.Moved.{keys-insert, keys-delete}
 use Rattle.rules.proofs.Requests.StaysGood.{Good}
@@ -98,9 +101,13 @@ moves-capacity S q R G = go (accepted S q R) refl
     go true e = moves-accepted S q R G (rw e tt)
     go false e = rw (ap (λ (o : Outcome). o .answer .moves) (refused-is S q R (neqb→ne (outcome S q R .answer .number) 0 (rw e tt)))) (omega arith)
 
--- which is at most 2048
-capacity-small : (h : ℕ) → 1 ≤ h → h ≤ 6 → capacity (shares h) ≤ 2048
-capacity-small h from to = rw (ends h from to .2) (mul-le-mul-right 32 (pow-le-pow-right (omega arith) to))
+-- which is at most 44 × 64
+most-small : (p : Profile) → most p ≤ 44
+most-small First = omega arith
+most-small Second = omega arith
 
-pub moves-bound : (h : ℕ) → 1 ≤ h → h ≤ 6 → (q : Request) (R : Room) → Good (shares h) R → outcome (shares h) q R .answer .moves ≤ 4096
-moves-bound h from to q R G = omega (arith, moves-capacity (shares h) q R G, capacity-small h from to)
+capacity-small : (p : Profile) (h : ℕ) → 1 ≤ h → h ≤ 6 → capacity (shares p h) ≤ 2816
+capacity-small p h from to = rw (whole p h from to .0) (mul-le-mul (pow-le-pow-right {n = 2} (omega arith) {i = h} {j = 6} to) (most-small p))
+
+pub moves-bound : (p : Profile) (h : ℕ) → 1 ≤ h → h ≤ 6 → (q : Request) (R : Room) → Good (shares p h) R → outcome (shares p h) q R .answer .moves ≤ 4096
+moves-bound p h from to q R G = omega (arith, moves-capacity (shares p h) q R G, capacity-small p h from to)

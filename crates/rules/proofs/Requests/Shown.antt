@@ -11,19 +11,19 @@ use Rattle.slots.proofs.Render.{sizes-segments}
 use Rattle.rules.specs.Checks.{checkList}
 use Rattle.rules.proofs.Requests.Checked.{Passed, passed, proper-segments, slots-rendered}
 
-module _ (slots : List ℕ) (e : checkList slots ≡ 0) where
+module _ (profile : ℕ) (slots : List ℕ) (e : checkList profile slots ≡ 0) where
   -- the slots show the segments that are read from them
   pub shows-passed : Shows (segmentsOf slots) slots
   shows-passed =
-      let p : Passed slots = passed slots e in
+      let p : Passed profile slots = passed profile slots e in
       record {
-        whole = sym (slots-rendered slots p);
+        whole = sym (slots-rendered profile slots p);
         fits = sizes-segments slots (2 ^ heightOf (length slots)) (p .number);
-        listed = proper-segments slots p .listed;
+        listed = proper-segments profile slots p .listed;
       }
 
   -- there are at least two of them
   pub long-passed : 128 ≤ length slots
   long-passed =
-      let p : Passed slots = passed slots e in
+      let p : Passed profile slots = passed profile slots e in
       omega (arith, p .number, pow-le-pow-right {n = 2} (omega arith) {i = 1} {j = heightOf (length slots)} (p .from))

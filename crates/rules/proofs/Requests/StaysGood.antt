@@ -32,7 +32,7 @@ use Rattle.rules.proofs.Requests.KeysKept.{cells-insert, cells-delete}
 
 pub record Good (S : Shares) (R : Room) : Type 0 where
   pub proper : Proper S (R .segments)
-  pub sizes : All (λ x. length x ≤ S .high 0) (R .segments)
+  pub sizes : All (λ x. length x ≤ 64) (R .segments)
   pub room : length (keys (R .segments)) ≤ capacity S
   pub ruled : Ruled (cellsOf S) (Marker (R .segments)) (R .cells)
   pub placed : Placed (segmentOf (R .segments)) (R .cells)
@@ -94,8 +94,8 @@ good-accepted S L q R G t = record {
   placed = c .1;
 }
   where
-    z : All (λ x. length x ≤ S .high 0) (outcome S q R .room .segments) × (length (keys (outcome S q R .room .segments)) ≤ capacity S)
-    z = sizes-kept S L q R (G .proper) t (G .sizes) (G .room)
+    z : All (λ x. length x ≤ 64) (outcome S q R .room .segments) × (length (keys (outcome S q R .room .segments)) ≤ capacity S)
+    z = sizes-kept S L q R (G .proper) t 64 (L .fits) (G .sizes) (G .room)
 
     c : Kept S (outcome S q R .room)
     c = kept-accepted S q R (G .proper) (G .ruled) t

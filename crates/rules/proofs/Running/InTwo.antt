@@ -14,6 +14,7 @@ use Rattle.forecast.specs.declared.Forecast.{Forecast}
 use Rattle.forecast.specs.Cells.{forecastOf}
 use Rattle.rules.specs.declared.Request.{Request}
 use Rattle.rules.specs.declared.Totals.{Totals}
+use Rattle.rules.specs.Profiles.{profileOf}
 use Rattle.rules.specs.Shares.{Shares, shares}
 use Rattle.rules.specs.Placing.{Room, Outcome, outcome}
 use Rattle.rules.specs.Checks.{sharesOf, check}
@@ -22,7 +23,7 @@ use Rattle.rules.specs.Runs.{recordsOf, isBad, nothing, one, tallied, Ra
 use Rattle.rules.specs.Calls.{roomOf, Worked, worked, run}
 use Rattle.rules.specs.Demand1.{inTwo, RunInTwo}
 use Rattle.rules.proofs.Running.Records.{records-drop, records-take}
-use Rattle.rules.proofs.Requests.Checked.{checked, height-render, room-render, check-render}
+use Rattle.rules.proofs.Requests.Checked.{checked, checked-known, height-render, room-render, check-render}
 use Rattle.rules.proofs.Running.RequestsWorked.{work-end, work-bad, work-over, work-on}
 use Rattle.rules.proofs.Running.Runs.{run-refused, run-checked, ran-works, done, done-place}
 use Rattle.rules.proofs.Running.StopNumbers.{ran-ends}
@@ -159,43 +160,43 @@ worked-since T r s = λ i. record {
 }
 
 -- a run from what a run leaves
-module _ (slots : List ℕ) (F : Forecast) (first rest : List ℕ) (allowance : ℕ) (T : Totals) (c : check slots F ≡ 0) where
+module _ (profile : ℕ) (slots : List ℕ) (F : Forecast) (first rest : List ℕ) (allowance : ℕ) (T : Totals) (c : check profile slots F ≡ 0) where
   abbrev W : Ran
-  W = ran (sharesOf slots) allowance first (roomOf slots F)
+  W = ran (sharesOf profile slots) allowance first (roomOf slots F)
 
   lo : 1 ≤ heightOf (length slots)
-  lo = checked slots F c .0
+  lo = checked profile slots F c .0
 
   hi : heightOf (length slots) ≤ 6
-  hi = checked slots F c .1
+  hi = checked profile slots F c .1
 
-  again : (left : ℕ) → run (render 0 (W .room .segments)) (forecastOf (W .room .cells)) rest left (added T (W .tally))
-      ≡ worked (added T (W .tally)) (ran (sharesOf slots) left rest (W .room))
+  again : (left : ℕ) → run profile (render 0 (W .room .segments)) (forecastOf (W .room .cells)) rest left (added T (W .tally))
+      ≡ worked (added T (W .tally)) (ran (sharesOf profile slots) left rest (W .room))
   again left =
-      run-checked (render 0 (W .room .segments)) (forecastOf (W .room .cells)) rest left (added T (W .tally))
-      (check-render (heightOf (length slots)) lo hi (W .room) (good-ran slots F first allowance T c))
-      ∙ ap₂ {C = Worked} (λ (h : ℕ) (X : Room). worked (added T (W .tally)) (ran (shares h) left rest X))
-      (height-render (heightOf (length slots)) lo hi (W .room) (good-ran slots F first allowance T c))
-      (room-render (heightOf (length slots)) lo hi (W .room) (good-ran slots F first allowance T c))
+      run-checked profile (render 0 (W .room .segments)) (forecastOf (W .room .cells)) rest left (added T (W .tally))
+      (check-render profile (checked-known profile slots F c) (heightOf (length slots)) lo hi (W .room) (good-ran profile slots F first allowance T c))
+      ∙ ap₂ {C = Worked} (λ (h : ℕ) (X : Room). worked (added T (W .tally)) (ran (shares (profileOf profile) h) left rest X))
+      (height-render profile (checked-known profile slots F c) (heightOf (length slots)) lo hi (W .room) (good-ran profile slots F first allowance T c))
+      (room-render profile (checked-known profile slots F c) (heightOf (length slots)) lo hi (W .room) (good-ran profile slots F first allowance T c))
 
-  both : W .stop ≡ 0 → worked T (ran (sharesOf slots) allowance (first ++ rest) (roomOf slots F))
-      ≡ inTwo (worked T W) (run (render 0 (W .room .segments)) (forecastOf (W .room .cells)) rest (allowance - W .tally .moves) (added T (W .tally)))
+  both : W .stop ≡ 0 → worked T (ran (sharesOf profile slots) allowance (first ++ rest) (roomOf slots F))
+      ≡ inTwo (worked T W) (run profile (render 0 (W .room .segments)) (forecastOf (W .room .cells)) rest (allowance - W .tally .moves) (added T (W .tally)))
   both z =
-      ap (worked T) (ran-in-two (sharesOf slots) allowance first rest (roomOf slots F) z)
-      ∙ worked-since T W (ran (sharesOf slots) (allowance - W .tally .moves) rest (W .room))
+      ap (worked T) (ran-in-two (sharesOf profile slots) allowance first rest (roomOf slots F) z)
+      ∙ worked-since T W (ran (sharesOf profile slots) (allowance - W .tally .moves) rest (W .room))
       ∙ ap (inTwo (worked T W)) (sym (again (allowance - W .tally .moves)))
 
 -- a run that ends with 0 has passed its check
-passes : (slots : List ℕ) (F : Forecast) (bytes : List ℕ) (allowance : ℕ) (T : Totals) → run slots F bytes allowance T .reply .stop ≡ 0 → check slots F ≡ 0
-passes slots F bytes allowance T z = go (decLe (check slots F) 0)
+passes : (profile : ℕ) (slots : List ℕ) (F : Forecast) (bytes : List ℕ) (allowance : ℕ) (T : Totals) → run profile slots F bytes allowance T .reply .stop ≡ 0 → check profile slots F ≡ 0
+passes profile slots F bytes allowance T z = go (decLe (check profile slots F) 0)
   where
-    go : Dec (check slots F ≤ 0) → check slots F ≡ 0
+    go : Dec (check profile slots F ≤ 0) → check profile slots F ≡ 0
     go (yes h) = omega arith
-    go (no h) = sym (ap (λ (U : Worked). U .reply .stop) (run-refused slots F bytes allowance T (λ e. absurd (omega arith)))) ∙ z
+    go (no h) = sym (ap (λ (U : Worked). U .reply .stop) (run-refused profile slots F bytes allowance T (λ e. absurd (omega arith)))) ∙ z
 
 -- a run over first and rest, where the run over the first ends with 0
 pub run-in-two : RunInTwo
-run-in-two slots F first rest allowance T z =
-    let c : check slots F ≡ 0 = passes slots F first allowance T z in
-    rw (run-checked slots F (first ++ rest) allowance T c, run-checked slots F first allowance T c)
-    (both slots F first rest allowance T c (sym (ap (λ (U : Worked). U .reply .stop) (run-checked slots F first allowance T c)) ∙ z))
+run-in-two profile slots F first rest allowance T z =
+    let c : check profile slots F ≡ 0 = passes profile slots F first allowance T z in
+    rw (run-checked profile slots F (first ++ rest) allowance T c, run-checked profile slots F first allowance T c)
+    (both profile slots F first rest allowance T c (sym (ap (λ (U : Worked). U .reply .stop) (run-checked profile slots F first allowance T c)) ∙ z))

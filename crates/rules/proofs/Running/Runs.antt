@@ -24,13 +24,13 @@ use Rattle.rules.proofs.Running.RequestsWorked.{Works, works, tallies-w
 -- refused by its check
 pub run-refused : RunRefused
 unfolding run
-run-refused slots F bytes allowance T n = rw (ne-eqb (check slots F) 0 n)
+run-refused profile slots F bytes allowance T n = rw (ne-eqb (check profile slots F) 0 n)
 
 -- or it works the records
-pub run-checked : (slots : List ℕ) (F : Forecast) (bytes : List ℕ) (allowance : ℕ) (T : Totals) → check slots F ≡ 0
-    → run slots F bytes allowance T ≡ worked T (ran (sharesOf slots) allowance bytes (roomOf slots F))
+pub run-checked : (profile : ℕ) (slots : List ℕ) (F : Forecast) (bytes : List ℕ) (allowance : ℕ) (T : Totals) → check profile slots F ≡ 0
+    → run profile slots F bytes allowance T ≡ worked T (ran (sharesOf profile slots) allowance bytes (roomOf slots F))
 unfolding run
-run-checked slots F bytes allowance T c = rw c
+run-checked profile slots F bytes allowance T c = rw c
 
 module _ (S : Shares) (allowance : ℕ) (bytes : List ℕ) (R : Room) where
   pub ran-works : Works S allowance (recordsOf bytes) R nothing (ran S allowance bytes R)
@@ -76,7 +76,7 @@ module _ (S : Shares) (allowance : ℕ) (bytes : List ℕ) (R : Room) where
 
 -- a run that stops leaves all as the run over the bytes before its place, which ends with 0
 pub run-stops : RunStops
-run-stops slots F bytes allowance T c =
-    let r : Ran = ran (sharesOf slots) allowance bytes (roomOf slots F) in
-    rw (run-checked slots F bytes allowance T c, run-checked slots F (take (r .tally .place) bytes) allowance T c, ran-again (sharesOf slots) allowance bytes (roomOf slots F))
+run-stops profile slots F bytes allowance T c =
+    let r : Ran = ran (sharesOf profile slots) allowance bytes (roomOf slots F) in
+    rw (run-checked profile slots F bytes allowance T c, run-checked profile slots F (take (r .tally .place) bytes) allowance T c, ran-again (sharesOf profile slots) allowance bytes (roomOf slots F))
     (record { stop = refl; slots = refl; forecast = refl; totals = refl; tally = refl })

@@ -13,6 +13,7 @@ use Rattle.forecast.specs.declared.Forecast.{Forecast}
 use Rattle.forecast.specs.Cells.{forecastOf}
 use Rattle.rules.specs.declared.Request.{Request}
 use Rattle.rules.specs.declared.Totals.{Totals}
+use Rattle.rules.specs.Profiles.{isProfile, profileOf}
 use Rattle.rules.specs.Shares.{Shares, shares}
 use Rattle.rules.specs.Placing.{Room, Outcome, outcome}
 use Rattle.rules.specs.Checks.{sharesOf, check}
@@ -25,7 +26,7 @@ use Rattle.rules.specs.Demand1.{Series, next, singly, begin, counted, Eq
 use Rattle.rules.proofs.Sharing.Table.{lawful}
 use Rattle.rules.proofs.Requests.Accepted.{refused-is}
 use Rattle.rules.proofs.Requests.StaysGood.{Good, good-next}
-use Rattle.rules.proofs.Requests.Checked.{checked, slots-shown, forecast-shown, height-render, room-render, check-render}
+use Rattle.rules.proofs.Requests.Checked.{checked, checked-known, slots-shown, forecast-shown, height-render, room-render, check-render}
 use Rattle.rules.proofs.Running.RequestsWorked.{after, tallies}
 use Rattle.rules.proofs.Running.Runs.{run-checked, ran-works, done, length-done, done-worked, done-place}
 use Rattle.rules.proofs.Running.StopNumbers.{ran-tells, ran-ends}
@@ -56,12 +57,15 @@ called-is S q R = go (eqb (outcome S q R .answer .number) 0) (neqb→ne _ _)
     go true n = refl
     go false n = sym (ap changed (refused-is S q R (n tt)))
 
-module _ (h : ℕ) (lo : 1 ≤ h) (hi : h ≤ 6) where
-  good-after : (qs : List Request) (R : Room) → Good (shares h) R → Good (shares h) (after (shares h) qs R)
-  good-after [] R g = g
-  good-after (q ∷ qs) R g = good-after qs (outcome (shares h) q R .room) (good-next (shares h) (lawful h lo hi) q R g)
+module _ (profile : ℕ) (known : T (isProfile profile)) (h : ℕ) (lo : 1 ≤ h) (hi : h ≤ 6) where
+  abbrev S : Shares
+  S = shares (profileOf profile) h
 
-  module _ (R : Room) (g : Good (shares h) R) where
+  good-after : (qs : List Request) (R : Room) → Good S R → Good S (after S qs R)
+  good-after [] R g = g
+  good-after (q ∷ qs) R g = good-after qs (outcome S q R .room) (good-next S (lawful (profileOf profile) h lo hi) q R g)
+
+  module _ (R : Room) (g : Good S R) where
     abbrev slots : List ℕ
     slots = render 0 (R .segments)
 
@@ -69,15 +73,15 @@ module _ (h : ℕ) (lo : 1 ≤ h) (hi : h ≤ 6) where
     forecast = forecastOf (R .cells)
 
     -- what a request finds in slots and forecast that show R
-    found : (q : Request) → outcome (sharesOf slots) q (roomOf slots forecast) ≡ outcome (shares h) q R
-    found q = ap₂ {C = Outcome} (λ (k : ℕ) (X : Room). outcome (shares k) q X) (height-render h lo hi R g) (room-render h lo hi R g)
+    found : (q : Request) → outcome (sharesOf profile slots) q (roomOf slots forecast) ≡ outcome S q R
+    found q = ap₂ {C = Outcome} (λ (k : ℕ) (X : Room). outcome (shares (profileOf profile) k) q X) (height-render profile known h lo hi R g) (room-render profile known h lo hi R g)
 
     -- a single call does what the rules say
-    pub request-is : (q : Request) → request q slots forecast ≡ changed (outcome (shares h) q R)
+    pub request-is : (q : Request) → request profile q slots forecast ≡ changed (outcome S q R)
     unfolding request
-    request-is q = ap₂ (called slots forecast) (check-render h lo hi R g) (found q) ∙ called-is (shares h) q R
+    request-is q = ap₂ (called slots forecast) (check-render profile known h lo hi R g) (found q) ∙ called-is S q R
 
-    next-is : (q : Request) (t : Tally) → next q (seriesOf R t) ≡ seriesOf (outcome (shares h) q R .room) (tallied (outcome (shares h) q R) t)
+    next-is : (q : Request) (t : Tally) → next profile q (seriesOf R t) ≡ seriesOf (outcome S q R .room) (tallied (outcome S q R) t)
     next-is q t = λ i. record {
       slots = request-is q i .slots;
       forecast = request-is q i .forecast;
@@ -86,13 +90,13 @@ module _ (h : ℕ) (lo : 1 ≤ h) (hi : h ≤ 6) where
       sweeps = t .sweeps + one (found q i .swept);
     }
 
-  singly-is : (qs : List Request) (R : Room) (t : Tally) → Good (shares h) R
-      → singly qs (seriesOf R t) ≡ seriesOf (after (shares h) qs R) (tallies (shares h) qs R t)
+  singly-is : (qs : List Request) (R : Room) (t : Tally) → Good S R
+      → singly profile qs (seriesOf R t) ≡ seriesOf (after S qs R) (tallies S qs R t)
   singly-is [] R t g = refl
   singly-is (q ∷ qs) R t g =
-      ap {B = Series} (λ s. singly qs s) (next-is R g q t) ∙ singly-is qs (outcome (shares h) q R .room) (tallied (outcome (shares h) q R) t) (good-next (shares h) (lawful h lo hi) q R g)
+      ap {B = Series} (λ s. singly profile qs s) (next-is R g q t) ∙ singly-is qs (outcome S q R .room) (tallied (outcome S q R) t) (good-next S (lawful (profileOf profile) h lo hi) q R g)
 
-module _ (slots : List ℕ) (F : Forecast) (bytes : List ℕ) (allowance : ℕ) (T : Totals) (c : check slots F ≡ 0) where
+module _ (profile : ℕ) (slots : List ℕ) (F : Forecast) (bytes : List ℕ) (allowance : ℕ) (totals : Totals) (c : check profile slots F ≡ 0) where
   abbrev h : ℕ
   h = heightOf (length slots)
 
@@ -100,77 +104,80 @@ module _ (slots : List ℕ) (F : Forecast) (bytes : List ℕ) (allowance : ℕ) 
   R = roomOf slots F
 
   abbrev r : Ran
-  r = ran (shares h) allowance bytes R
+  r = ran (sharesOf profile slots) allowance bytes R
 
   -- the requests that it works
   abbrev ds : List Request
-  ds = take (done (shares h) allowance bytes R) (recordsOf bytes)
+  ds = take (done (sharesOf profile slots) allowance bytes R) (recordsOf bytes)
+
+  known : T (isProfile profile)
+  known = checked-known profile slots F c
 
   lo : 1 ≤ h
-  lo = checked slots F c .0
+  lo = checked profile slots F c .0
 
   hi : h ≤ 6
-  hi = checked slots F c .1
+  hi = checked profile slots F c .1
 
-  pub good-ran : Good (shares h) (r .room)
-  good-ran = rw (ran-works (shares h) allowance bytes R .room) (good-after h lo hi ds R (checked slots F c .2))
+  pub good-ran : Good (sharesOf profile slots) (r .room)
+  good-ran = rw (ran-works (sharesOf profile slots) allowance bytes R .room) (good-after profile known h lo hi ds R (checked profile slots F c .2))
 
-  keeps : check (worked T r .slots) (worked T r .forecast) ≡ 0
-  keeps = check-render h lo hi (r .room) good-ran
+  keeps : check profile (worked totals r .slots) (worked totals r .forecast) ≡ 0
+  keeps = check-render profile known h lo hi (r .room) good-ran
 
-  tells : Tells (row9 bytes (r .tally .place) ∷ row10 bytes allowance (worked T r) ∷ []) (r .stop)
-  tells = ran-tells (shares h) allowance bytes R T (λ q. ap (λ (d : Called). d .answer .moves) (request-is h lo hi (r .room) good-ran q))
+  tells : Tells (row9 bytes (r .tally .place) ∷ row10 profile bytes allowance (worked totals r) ∷ []) (r .stop)
+  tells = ran-tells (sharesOf profile slots) allowance bytes R profile totals (λ q. ap (λ (d : Called). d .answer .moves) (request-is profile known h lo hi (r .room) good-ran q))
 
-  series : Roomy F → singly ds (begin slots F) ≡ seriesOf (r .room) (r .tally)
+  series : Roomy F → singly profile ds (begin slots F) ≡ seriesOf (r .room) (r .tally)
   series f =
-      ap {B = Series} (λ s. singly ds s) start ∙ singly-is h lo hi ds R nothing (checked slots F c .2)
-      ∙ ap₂ {C = Series} seriesOf (sym (ran-works (shares h) allowance bytes R .room)) (sym (ran-works (shares h) allowance bytes R .tally))
+      ap {B = Series} (λ s. singly profile ds s) start ∙ singly-is profile known h lo hi ds R nothing (checked profile slots F c .2)
+      ∙ ap₂ {C = Series} seriesOf (sym (ran-works (sharesOf profile slots) allowance bytes R .room)) (sym (ran-works (sharesOf profile slots) allowance bytes R .tally))
     where
       start : begin slots F ≡ seriesOf R nothing
       start = λ i. record {
-        slots = sym (slots-shown slots F c) i;
-        forecast = sym (forecast-shown slots F c f) i;
+        slots = sym (slots-shown profile slots F c) i;
+        forecast = sym (forecast-shown profile slots F c f) i;
         refused = 0;
         moves = 0;
         sweeps = 0;
       }
 
   number : length ds ≡ r .tally .worked
-  number = length-done (shares h) allowance bytes R ∙ sym (done-worked (shares h) allowance bytes R)
+  number = length-done (sharesOf profile slots) allowance bytes R ∙ sym (done-worked (sharesOf profile slots) allowance bytes R)
 
   place : r .tally .place ≡ 11 * length ds
-  place = done-place (shares h) allowance bytes R ∙ ap (λ (n : ℕ). 11 * n) (sym (length-done (shares h) allowance bytes R))
+  place = done-place (sharesOf profile slots) allowance bytes R ∙ ap (λ (n : ℕ). 11 * n) (sym (length-done (sharesOf profile slots) allowance bytes R))
 
   numbers : r .tally ≡ counted ds (seriesOf (r .room) (r .tally))
   numbers = λ i. record { worked = sym number i; refused = r .tally .refused; moves = r .tally .moves; sweeps = r .tally .sweeps; place = place i }
 
-  equals : Equals T ds (seriesOf (r .room) (r .tally)) (worked T r)
+  equals : Equals totals ds (seriesOf (r .room) (r .tally)) (worked totals r)
   equals = record {
-    good = ran-works (shares h) allowance bytes R .good;
+    good = ran-works (sharesOf profile slots) allowance bytes R .good;
     slots = refl;
     forecast = refl;
     tally = numbers;
-    totals = ap (added T) numbers;
+    totals = ap (added totals) numbers;
   }
 
 -- a run keeps a valid list valid
 pub run-keeps : RunKeeps
-run-keeps slots F bytes allowance T c = rw (run-checked slots F bytes allowance T c) (keeps slots F bytes allowance T c)
+run-keeps profile slots F bytes allowance T c = rw (run-checked profile slots F bytes allowance T c) (keeps profile slots F bytes allowance T c)
 
 -- the stop number is as the rows tell, and the moves are within the allowance
 pub run-tells : RunTells
-run-tells slots F bytes allowance T c =
-    let S : Shares = sharesOf slots in
+run-tells profile slots F bytes allowance T c =
+    let S : Shares = sharesOf profile slots in
     let R : Room = roomOf slots F in
-    rw (run-checked slots F bytes allowance T c)
-    (tells slots F bytes allowance T c, ran-ends S allowance bytes R, ran-works S allowance bytes R .within)
+    rw (run-checked profile slots F bytes allowance T c)
+    (tells profile slots F bytes allowance T c, ran-ends S allowance bytes R, ran-works S allowance bytes R .within)
 
 -- a run does what its requests do singly
 pub run-is-singly : RunIsSingly
-run-is-singly slots F bytes allowance T f c qs e =
-    let S : Shares = sharesOf slots in
+run-is-singly profile slots F bytes allowance T f c qs e =
+    let S : Shares = sharesOf profile slots in
     let R : Room = roomOf slots F in
     let d : qs ≡ take (done S allowance bytes R) (recordsOf bytes) =
-    e ∙ ap (λ (W : Worked). take (W .reply .tally .worked) (recordsOf bytes)) (run-checked slots F bytes allowance T c)
+    e ∙ ap (λ (W : Worked). take (W .reply .tally .worked) (recordsOf bytes)) (run-checked profile slots F bytes allowance T c)
     ∙ ap (λ (n : ℕ). take n (recordsOf bytes)) (done-worked S allowance bytes R) in
-    rw (run-checked slots F bytes allowance T c, d, series slots F bytes allowance T c f) (equals slots F bytes allowance T c)
+    rw (run-checked profile slots F bytes allowance T c, d, series profile slots F bytes allowance T c f) (equals profile slots F bytes allowance T c)

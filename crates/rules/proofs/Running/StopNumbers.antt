@@ -33,15 +33,15 @@ module _ (S : Shares) (allowance : ℕ) (bytes : List ℕ) (R : Room) where
   next : getD (recordsOf bytes) (done S allowance bytes R) Bad ≡ requestOf (drop p bytes)
   next = record-at (done S allowance bytes R) bytes ∙ ap (λ (k : ℕ). requestOf (drop k bytes)) (sym (done-place S allowance bytes R))
 
-  pub ran-tells : (totals : Totals)
-      → ((q : Request) → request q (render 0 (r .room .segments)) (forecastOf (r .room .cells)) .answer .moves ≡ outcome S q (r .room) .answer .moves)
-      → Tells (stopRows bytes allowance (worked totals r)) (r .stop)
-  ran-tells totals single = go (ran-works S allowance bytes R .stops)
+  pub ran-tells : (profile : ℕ) (totals : Totals)
+      → ((q : Request) → request profile q (render 0 (r .room .segments)) (forecastOf (r .room .cells)) .answer .moves ≡ outcome S q (r .room) .answer .moves)
+      → Tells (stopRows profile bytes allowance (worked totals r)) (r .stop)
+  ran-tells profile totals single = go (ran-works S allowance bytes R .stops)
     where
       outside : done S allowance bytes R ≡ length (recordsOf bytes) → ¬ (p < length bytes)
       outside h = omega (arith, ends-whole S allowance bytes R h)
 
-      go : Stops S allowance (recordsOf bytes) (done S allowance bytes R) r → Tells (stopRows bytes allowance (worked totals r)) (r .stop)
+      go : Stops S allowance (recordsOf bytes) (done S allowance bytes R) r → Tells (stopRows profile bytes allowance (worked totals r)) (r .stop)
       go (ends e h) = inr ((λ x. outside h (x .0)), inr ((λ x. outside h (x .0)), e))
       go (at-bad e h b) = inl ((stops-inside S allowance bytes R h, bad-at bytes p (subst (λ (q : Request). T (isBad q)) next b)), e)
       go (over e h g o) =

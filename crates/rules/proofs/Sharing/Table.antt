@@ -1,4 +1,4 @@
--- The table of shares is the two formulas, and its shares are lawful: one computed test each.
+-- The tables of shares are their formulas, and their shares are lawful: one computed test each, over both profiles.
 use mathlib.Core.Path.{_≡_}
 use mathlib.Core.Bool.{Bool, _&&_}
 use Prim.Native.Nat.{ℕ, zero, suc, _+_, _*_, _≤_, _<_}
@@ -6,47 +6,55 @@ use native.Mathlib.Omega.{arith}
 use lib.Dec.{T, leb, ltb, eqb, eqb→eq, leb→le, ltb→lt}
 use Rattle.lists.proofs.Tests.{and-left, and-right}
 use Rattle.lists.proofs.Computed.{allBelow, below-at}
+use Rattle.rules.specs.declared.Profile.{Profile}
+use Rattle.rules.specs.declared.Profile.the-variants.{First, Second}
+use Rattle.rules.specs.Profiles.{most, fewest}
 use Rattle.rules.specs.Shares.{shares, highBy, lowBy}
 use Rattle.rules.specs.Readings.{Table, TableLawful}
 
--- a test of each level below h + k, for each height h from 1 to 6
-abbrev pub everywhere : ℕ → (ℕ → ℕ → Bool) → Bool
-everywhere k p = allBelow 6 (λ h. allBelow (h + k) (p (suc h)))
+-- a test of each level below h + k, for each height h from 1 to 6, in both profiles
+abbrev pub everywhere : ℕ → (Profile → ℕ → ℕ → Bool) → Bool
+everywhere k t = allBelow 6 (λ h. allBelow (h + k) (λ l. t First (suc h) l && t Second (suc h) l))
 
-pub at : (k : ℕ) (p : ℕ → ℕ → Bool) → T (everywhere k p) → (h l : ℕ) → h < 6 → l < h + k → T (p (suc h) l)
-at k p t h l hb lb = below-at (h + k) (p (suc h)) (below-at 6 (λ h. allBelow (h + k) (p (suc h))) t h hb) l lb
+pub at : (k : ℕ) (t : Profile → ℕ → ℕ → Bool) → T (everywhere k t) → (p : Profile) (h l : ℕ) → h < 6 → l < h + k → T (t p (suc h) l)
+at k t e p h l hb lb = go p (below-at (h + k) both (below-at 6 (λ h. allBelow (h + k) (λ l. t First (suc h) l && t Second (suc h) l)) e h hb) l lb)
+  where
+    both : ℕ → Bool
+    both l = t First (suc h) l && t Second (suc h) l
+
+    go : (p : Profile) → T (both l) → T (t p (suc h) l)
+    go First b = and-left (t First (suc h) l) (t Second (suc h) l) b
+    go Second b = and-right (t First (suc h) l) (t Second (suc h) l) b
 
 -- THE TABLE is the formulas
-abbrev agrees : ℕ → ℕ → Bool
-agrees h l = eqb (shares h .high l) (highBy h l) && eqb (shares h .low l) (lowBy h l)
+abbrev agrees : Profile → ℕ → ℕ → Bool
+agrees p h l = eqb (shares p h .high l) (highBy p h l) && eqb (shares p h .low l) (lowBy p h l)
 
 pub table : Table
-table zero l from to within = absurd (omega arith)
-table (suc h) l from to within = (
-  eqb→eq _ _ (and-left (eqb (shares (suc h) .high l) (highBy (suc h) l)) (eqb (shares (suc h) .low l) (lowBy (suc h) l)) t),
-  eqb→eq _ _ (and-right (eqb (shares (suc h) .high l) (highBy (suc h) l)) (eqb (shares (suc h) .low l) (lowBy (suc h) l)) t),
+table p zero l from to within = absurd (omega arith)
+table p (suc h) l from to within = (
+  eqb→eq _ _ (and-left (eqb (shares p (suc h) .high l) (highBy p (suc h) l)) (eqb (shares p (suc h) .low l) (lowBy p (suc h) l)) t),
+  eqb→eq _ _ (and-right (eqb (shares p (suc h) .high l) (highBy p (suc h) l)) (eqb (shares p (suc h) .low l) (lowBy p (suc h) l)) t),
 )
   where
-    t : T (agrees (suc h) l)
-    t = at 2 agrees tt h l to (omega arith)
+    t : T (agrees p (suc h) l)
+    t = at 2 agrees tt p h l to (omega arith)
 
 -- ITS SHARES are lawful
 pub lawful : TableLawful
-lawful zero from to = absurd (omega arith)
-lawful (suc h) from to = record {
-  falls = λ l k. ltb→lt _ _ (at 1 (λ h l. ltb (shares h .high (suc l)) (shares h .high l)) tt h l to (omega arith));
-  rises = λ l k. ltb→lt _ _ (at 1 (λ h l. ltb (shares h .low l) (shares h .low (suc l))) tt h l to (omega arith));
-  fits = leb→le _ _ (at 1 (λ h l. leb (shares h .high 0) 64) tt h 0 to (omega arith));
-  gaps = λ l k. ltb→lt _ _ (at 1 (λ h l. ltb (shares h .high (suc l)) 64) tt h l to (omega arith));
-  doubled = ltb→lt _ _ (at 1 (λ h l. ltb (2 * shares h .low h) (shares h .high h)) tt h 0 to (omega arith));
+lawful p zero from to = absurd (omega arith)
+lawful p (suc h) from to = record {
+  falls = λ l k. ltb→lt _ _ (at 1 (λ p h l. ltb (shares p h .high (suc l)) (shares p h .high l)) tt p h l to (omega arith));
+  rises = λ l k. ltb→lt _ _ (at 1 (λ p h l. ltb (shares p h .low l) (shares p h .low (suc l))) tt p h l to (omega arith));
+  fits = leb→le _ _ (at 1 (λ p h l. leb (shares p h .high 0) 64) tt p h 0 to (omega arith));
+  gaps = λ l k. ltb→lt _ _ (at 1 (λ p h l. ltb (shares p h .high (suc l)) 64) tt p h l to (omega arith));
+  doubled = ltb→lt _ _ (at 1 (λ p h l. ltb (2 * shares p h .low h) (shares p h .high h)) tt p h 0 to (omega arith));
 }
 
--- what the table says at its ends: a segment takes 64, a list holds 32 × 2^h keys and is sparse below 13 × 2^h
-pub ends : (h : ℕ) → 1 ≤ h → h ≤ 6 → (shares h .high 0 ≡ 64) × (shares h .low 0 ≡ 7) × (shares h .high h ≡ 32) × (shares h .low h ≡ 13)
-ends zero from to = absurd (omega arith)
-ends (suc h) from to = (
-  eqb→eq _ _ (at 1 (λ h l. eqb (shares h .high 0) 64) tt h 0 to (omega arith)),
-  eqb→eq _ _ (at 1 (λ h l. eqb (shares h .low 0) 7) tt h 0 to (omega arith)),
-  eqb→eq _ _ (at 1 (λ h l. eqb (shares h .high h) 32) tt h 0 to (omega arith)),
-  eqb→eq _ _ (at 1 (λ h l. eqb (shares h .low h) 13) tt h 0 to (omega arith)),
+-- what the table says of a whole list: the most keys that a segment of it holds, and the fewest that are not sparse
+pub whole : (p : Profile) (h : ℕ) → 1 ≤ h → h ≤ 6 → (shares p h .high h ≡ most p) × (shares p h .low h ≡ fewest p)
+whole p zero from to = absurd (omega arith)
+whole p (suc h) from to = (
+  eqb→eq _ _ (at 1 (λ p h l. eqb (shares p h .high h) (most p)) tt p h 0 to (omega arith)),
+  eqb→eq _ _ (at 1 (λ p h l. eqb (shares p h .low h) (fewest p)) tt p h 0 to (omega arith)),
 )

@@ -33,11 +33,11 @@ use Rattle.rules.proofs.Sweeping.Settled.{Asked}
 use Rattle.rules.proofs.Requests.Accepted.{insert-accepted, delete-accepted, bad-refused}
 use Rattle.rules.proofs.Requests.Moved.{asked-insert, asked-delete, keys-insert, keys-delete}
 
-abbrev Sized : Shares → Segments → Type 0
-Sized S ss = All (λ x. length x ≤ S .high 0) ss
+abbrev Sized : ℕ → Segments → Type 0
+Sized b ss = All (λ x. length x ≤ b) ss
 
 -- the segments of a window that is shared out
-new-sized : (S : Shares) → Lawful S → (k s : ℕ) (cs : List Cell) (ms : Segments) → 1 ≤ k → k ≤ S .height → Limits S k k (count k s ms) → Sized S (newWindow S k s cs ms)
+new-sized : (S : Shares) → Lawful S → (k s : ℕ) (cs : List Cell) (ms : Segments) → 1 ≤ k → k ≤ S .height → Limits S k k (count k s ms) → Sized (S .high 0) (newWindow S k s cs ms)
 new-sized S L k s cs ms p q h x m = omega (arith, c, rw (pow-zero 2) at (i .1), L .falls 0 (omega arith))
   where
     new : Segments
@@ -55,17 +55,17 @@ new-sized S L k s cs ms p q h x m = omega (arith, c, rw (pow-zero 2) at (i .1), 
     c : count 0 (a .0) new ≡ length x
     c = ap (λ (ys : Segments). length (keys ys)) (window-zero (a .0) new [] (a .1)) ∙ ap length (append-nil (getD new (a .0) []) ∙ a .2)
 
--- a request at segment s that leaves new there before any sweep
-module _ (S : Shares) (L : Lawful S) (ss : Segments) (s : ℕ) (new : List ℕ) (cs : List Cell) (n : ℕ) (b : Bool) (f : s < length ss) (z : Sized S ss) where
-  settled-sized : (r : Option ℕ) → Asked S s (set ss s new) r → (r ≡ none → length new ≤ S .high 0) → Sized S (settled S s cs (set ss s new) n b r .room .segments)
+-- a request at segment s that leaves new there before any sweep; segments have at most m keys
+module _ (S : Shares) (L : Lawful S) (m : ℕ) (h₀ : S .high 0 ≤ m) (ss : Segments) (s : ℕ) (new : List ℕ) (cs : List Cell) (n : ℕ) (b : Bool) (f : s < length ss) (z : Sized m ss) where
+  settled-sized : (r : Option ℕ) → Asked S s (set ss s new) r → (r ≡ none → length new ≤ m) → Sized m (settled S s cs (set ss s new) n b r .room .segments)
   unfolding settled sweep
-  settled-sized none a h x m = elim (mem-set ss s new x f m) [ inl e ↦ rw e (h refl) | inr o ↦ z x o ]
-  settled-sized (some k) a h x m =
-      elim (in-either (take (start k s) (set ss s new)) m) [
+  settled-sized none a h x i = elim (mem-set ss s new x f i) [ inl e ↦ rw e (h refl) | inr o ↦ z x o ]
+  settled-sized (some k) a h x i =
+      elim (in-either (take (start k s) (set ss s new)) i) [
         | inl o ↦ z x (mem-take (start k s) ss x (subst (Mem x) (take-set-le (start k s) ss s new (start-le k s)) o))
         | inr o ↦
             elim (in-either (newWindow S k s cs (set ss s new)) o) [
-              | inl i ↦ new-sized S L k s cs (set ss s new) (a .0 .0) (a .1) (within→limits S k _ (a .0 .1)) x i
+              | inl i ↦ omega (arith, new-sized S L k s cs (set ss s new) (a .0 .0) (a .1) (within→limits S k _ (a .0 .1)) x i)
               | inr i ↦ z x (mem-drop (start k s + 2 ^ k) ss x (subst (Mem x) (drop-set-lt (start k s + 2 ^ k) ss s new (lt-end k s)) i))
             ]
       ]
@@ -84,12 +84,12 @@ full-finds S L y ss n f e c = go (ltb (length (getD ss (home y ss) [])) (S .high
         absurd (Option·none-ne-some _ (sym r ∙
         insert-finds S L (home y ss) (putIn y ss) (length-set ss _ _ ∙ n) (omega arith) (rw (getD-set-same ss (home y ss) (put y (getD ss (home y ss) [])) [] f) (omega (arith, q tt))) c .1))
 
-module _ (S : Shares) (L : Lawful S) (y : ℕ) (R : Room) (K : Proper S (R .segments)) (z : Sized S (R .segments)) where
+module _ (S : Shares) (L : Lawful S) (m : ℕ) (h₀ : S .high 0 ≤ m) (y : ℕ) (R : Room) (K : Proper S (R .segments)) (z : Sized m (R .segments)) where
   sized-insert : T (not (member y (keys (R .segments)))) → length (keys (R .segments)) < capacity S
-      → Sized S (insertKey S y R .room .segments) × (length (keys (insertKey S y R .room .segments)) ≤ capacity S)
+      → Sized m (insertKey S y R .room .segments) × (length (keys (insertKey S y R .room .segments)) ≤ capacity S)
   unfolding insertKey
   sized-insert t c = (
-    settled-sized S L (R .segments) s (put y seg) _ _ _ f z (insertLevel S y (R .segments)) (asked-insert S y (R .segments) f e) none-fits,
+    settled-sized S L m h₀ (R .segments) s (put y seg) _ _ _ f z (insertLevel S y (R .segments)) (asked-insert S y (R .segments) f e) (λ r. omega (arith, none-fits r)),
     rw (keys-insert S y R (K .listed) p t) (omega (arith, length-put y (keys (R .segments)) (not-member y (keys (R .segments)) t))),
   )
     where
@@ -115,12 +115,12 @@ module _ (S : Shares) (L : Lawful S) (y : ℕ) (R : Room) (K : Proper S (R .segm
           (omega (arith, length-put y (keys (R .segments)) (not-member y (keys (R .segments)) t))))
 
   sized-delete : Mem y (keys (R .segments)) → length (keys (R .segments)) ≤ capacity S
-      → Sized S (deleteKey S y R .room .segments) × (length (keys (deleteKey S y R .room .segments)) ≤ capacity S)
+      → Sized m (deleteKey S y R .room .segments) × (length (keys (deleteKey S y R .room .segments)) ≤ capacity S)
   unfolding deleteKey
-  sized-delete m c = (
-    settled-sized S L (R .segments) s (cut y seg) _ _ _ f z (deleteLevel S y (R .segments)) (asked-delete S y (R .segments) f)
+  sized-delete i c = (
+    settled-sized S L m h₀ (R .segments) s (cut y seg) _ _ _ f z (deleteLevel S y (R .segments)) (asked-delete S y (R .segments) f)
         (λ r. omega (arith, e, z seg (at-mem (R .segments) s [] f))),
-    rw (keys-delete S y R (K .listed) m) (omega (arith, length-cut y (keys (R .segments)) (K .listed .rising) m)),
+    rw (keys-delete S y R (K .listed) i) (omega (arith, length-cut y (keys (R .segments)) (K .listed .rising) i)),
   )
     where
       s : ℕ
@@ -130,16 +130,16 @@ module _ (S : Shares) (L : Lawful S) (y : ℕ) (R : Room) (K : Proper S (R .segm
       seg = getD (R .segments) s []
 
       f : segmentOf (R .segments) y < length (R .segments)
-      f = segment-mem (R .segments) y (K .listed .live y m) m .0
+      f = segment-mem (R .segments) y (K .listed .live y i) i .0
 
       e : suc (length (cut y (getD (R .segments) (segmentOf (R .segments) y) []))) ≡ length (getD (R .segments) (segmentOf (R .segments) y) [])
-      e = length-cut y (getD (R .segments) (segmentOf (R .segments) y) []) (rising-part (R .segments) (segmentOf (R .segments) y) f (K .listed .rising)) (segment-mem (R .segments) y (K .listed .live y m) m .1)
+      e = length-cut y (getD (R .segments) (segmentOf (R .segments) y) []) (rising-part (R .segments) (segmentOf (R .segments) y) f (K .listed .rising)) (segment-mem (R .segments) y (K .listed .live y i) i .1)
 
 pub sizes-kept : SizesKept
-sizes-kept S L (Insert y) R K t z c = rw (insert-accepted S y R t .is) (sized-insert S L y R K z (insert-accepted S y R t .fresh) (insert-accepted S y R t .room))
-sizes-kept S L (Delete y) R K t z c =
-    rw (delete-accepted S y R t .is) (sized-delete S L y R K z (member→mem y (keys (R .segments)) (delete-accepted S y R t .present)) c)
-sizes-kept S L Bad R K t z c = absurd (bad-refused S R t)
+sizes-kept S L (Insert y) R K t m h z c = rw (insert-accepted S y R t .is) (sized-insert S L m h y R K z (insert-accepted S y R t .fresh) (insert-accepted S y R t .room))
+sizes-kept S L (Delete y) R K t m h z c =
+    rw (delete-accepted S y R t .is) (sized-delete S L m h y R K z (member→mem y (keys (R .segments)) (delete-accepted S y R t .present)) c)
+sizes-kept S L Bad R K t m h z c = absurd (bad-refused S R t)
 
 -- AN INSERT FINDS A WINDOW
 pub insert-always-finds : InsertFinds

@@ -18,7 +18,7 @@ returns c =
     let s = c .before .before .before .before .before in
     let read = c .before .before .read-forecast in
     let checked = c .before .check in
-    check-given (s .args .list .now) (s .args .forecast .now) (s .pre) (read .result) (checked .result) (c .check-number .result) (read .ensures) (checked .ensures) (c .check-number .ensures)
+    check-given (s .args .profile) (s .args .list .now) (s .args .forecast .now) (s .pre) (read .result) (checked .result) (c .check-number .result) (read .ensures) (checked .ensures) (c .check-number .ensures)
 
 pub check-spec : {M : Type 1} → statement M
 check-spec =

@@ -24,7 +24,7 @@ returns c =
     let s = c .before .before .before .before .before .before .before .before .before .before .before .before in
     let made = c .before .before .before .before .before .before .before .before .make in
     let number = c .before .before .before .before .before .make-number in
-    make-given (s .args .list .now) (s .args .forecast .now) (s .pre) (made .result) (number .result) _ _ (made .ensures) (c .before .before .write-forecast .ensures) (number .ensures)
+    make-given (s .args .profile) (s .args .list .now) (s .args .forecast .now) (s .pre) (made .result) (number .result) _ _ (made .ensures) (c .before .before .write-forecast .ensures) (number .ensures)
 
 pub make-spec : {M : Type 1} → statement M
 make-spec =

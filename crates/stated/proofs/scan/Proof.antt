@@ -25,7 +25,7 @@ returns c =
     let scanned = c .before .before .before .before .before .before .before .scan in
     let told = c .before .before .before .before .scan-told in
     let tell = c .before .before .tell-two in
-    scan-given (s .args .list .now) (s .args .from) (s .args .reply .now) (s .pre) (s .args .output .now) (scanned .result) (told .result) (tell .result) _ _ (scanned .ensures) (told .ensures) (tell .ensures .0) (tell .ensures .1)
+    scan-given (s .args .profile) (s .args .list .now) (s .args .from) (s .args .reply .now) (s .pre) (s .args .output .now) (scanned .result) (told .result) (tell .result) _ _ (scanned .ensures) (told .ensures) (tell .ensures .0) (tell .ensures .1)
 
 pub scan-spec : {M : Type 1} → statement M
 scan-spec =

@@ -10,12 +10,12 @@ use Rattle.slots.specs.Segments.{segmentsOf}
 use Rattle.cells.specs.Cells.{weight}
 use Rattle.forecast.specs.declared.Forecast.{Forecast}
 use Rattle.forecast.specs.Cells.{usedCells}
-use Rattle.rules.specs.Shares.{shares}
 use Rattle.stretches.specs.declared.Part.{Part}
 use Rattle.stretches.specs.Marks.{Marked}
 use Rattle.stretches.specs.Parts.{PartOf}
 use Rattle.planning.specs.Plans.{Planned}
 use Rattle.marks.specs.Marking.{after}
+use Rattle.shares.specs.Rows.{sharesAt}
 use Rattle.sweeps.specs.Acts.{Acting, Noted}
 use Rattle.sweeps.proofs.PlanFor.{level-small, planned, first-few, lent, marking, front-small, part, plan-back}
 use Rattle.sweeps.proofs.plan_sweep.Statement.{statement}
@@ -141,9 +141,9 @@ plan-window-requires c κs =
     let keys : d .whole .result .keys ≡ s .args .aim .moves = ap (λ (q : Part). q .keys) (d .whole .ensures) in (
       (ws (f d), whole d (s .pre .0 .2) (s .pre .0 .3)),
       (
-        shares (s .args .shape .height),
+        sharesAt (s .args .shape),
         s .pre .0 .2 .stands .shape .rows,
-        subst (Planned (shares (s .args .shape .height)) (s .args .aim .level) _) (sym keys) (planned (s .pre .0 .2) (s .pre .1 .0) _ long),
+        subst (Planned (sharesAt (s .args .shape)) (s .args .aim .level) _) (sym keys) (planned (s .pre .0 .2) (s .pre .1 .0) _ long),
       ),
     )
 
@@ -159,7 +159,7 @@ returns c =
     let done = c .before .before .plan-window .ensures in (
       search needs,
       λ F bounds A N. plan-back A (s .pre .1 .0) size refl N (f d .front-weight .ensures) (weights (f d)) _ _ (d .whole .ensures) (done .0 ∙ buffer s (p .power .ensures .1))
-          (done .1 (shares (s .args .shape .height)) (ws (f d)) (planned A (s .pre .1 .0) _ size .level) (A .stands .shape .rows) (whole d A N)),
+          (done .1 (sharesAt (s .args .shape)) (ws (f d)) (planned A (s .pre .1 .0) _ size .level) (A .stands .shape .rows) (whole d A N)),
     )
 
 pub plan-sweep-spec : {M : Type 1} → statement M

@@ -7,10 +7,10 @@ use native.Mathlib.Omega.{arith}
 use lib.ListN.{length, take, drop, length-drop}
 use lib.Seq.{take-all}
 use Rattle.rules.specs.declared.Request.{Request}
-use Rattle.rules.specs.Shares.{shares}
 use Rattle.rules.specs.Calls.{roomOf}
 use Rattle.rules.specs.Runs.{requestOf}
 use Rattle.aims.specs.Aims.{Aimed}
+use Rattle.shares.specs.Rows.{sharesAt}
 use Rattle.tallies.proofs.aim_at.Statement.{statement}
 use Rattle.tallies.proofs.aim_at.Tie as tie
 
@@ -36,7 +36,7 @@ aim-requires c κs = c .before .before .before .before .before .before .pre .0
 returns : tie.Need-returns
 returns c F S =
     let s = c .before .before .before .before .before .before .before in
-    subst (λ (q : Request). Aimed (shares (s .args .shape .height)) q (roomOf (s .args .list .now) F) (c .aim .result))
+    subst (λ (q : Request). Aimed (sharesAt (s .args .shape)) q (roomOf (s .args .list .now) F) (c .aim .result))
     (c .before .request-of .ensures ∙ ap requestOf (part-all (s .args .place) (s .args .bytes .now))) (c .aim .ensures F S)
 
 pub aim-at-spec : {M : Type 1} → statement M

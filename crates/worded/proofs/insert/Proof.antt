@@ -29,7 +29,7 @@ returns c =
     let read = c .before .before .before .before .before .before .before .before .before .before .before .read-forecast in
     let done = c .before .before .before .before .before .before .before .before .before .insert in
     let post = c .before .before .before .before .post-insert in
-    insert-given (a .list .now) (a .forecast .now) (a .key) (a .reply .now) (s .pre .0) (read .result) (done .result) (post .result) _ _ _ (s .pre .1) (read .ensures) (done .ensures) (post .ensures)
+    insert-given (a .profile) (a .list .now) (a .forecast .now) (a .key) (a .reply .now) (s .pre .0) (read .result) (done .result) (post .result) _ _ _ (s .pre .1) (read .ensures) (done .ensures) (post .ensures)
 
 pub insert-spec : {M : Type 1} → statement M
 insert-spec =

@@ -36,6 +36,7 @@ returns c =
     let totals = c .before .before .before .before .before .before .before .before .before .before .before .before .before .before .before .before .read-totals in
     let ran = c .before .before .before .before .before .before .before .before .before .before .before .before .before .before .run-told in
     let lent : Lent = record {
+      profile = a .profile;
       list = a .list .now;
       forecast = a .forecast .now;
       requests = a .requests .now;

@@ -14,6 +14,7 @@ use Rattle.slots.proofs.Counts.{count-zero}
 use Rattle.slots.specs.Shown.{CountsOf}
 use Rattle.aims.specs.Climbs.{otherHalf}
 use Rattle.aims.proofs.Halves.{other-fits}
+use Rattle.shares.specs.Rows.{sharesAt}
 use Rattle.aims.proofs.Grown.{keys-next, Tried, tried-more, climbed-here, climbed-none}
 use Rattle.aims.proofs.climbing.climb.Statement.{statement}
 use Rattle.aims.proofs.climbing.climb.Tie as tie
@@ -21,7 +22,7 @@ use Rattle.aims.proofs.climbing.climb.Tie as tie
 abbrev Inv-loop : tie.InvT-loop
 Inv-loop counts shape seg held h keys₀ level₀ half₀ keys level half =
     (level ≤ shape .height) × (half ≡ 2 ^ level) × (keys ≤ 64 * half + 1)
-    × ((ss : Segments) (new : List ℕ) → length ss ≡ 2 ^ shape .height → CountsOf ss counts → length new ≡ held → (keys ≡ count level seg (set ss seg new)) × Tried (shape .height) seg (set ss seg new) level)
+    × ((ss : Segments) (new : List ℕ) → length ss ≡ 2 ^ shape .height → CountsOf ss counts → length new ≡ held → (keys ≡ count level seg (set ss seg new)) × Tried (sharesAt shape) seg (set ss seg new) level)
 
 abbrev μ-loop : tie.MeasureT-loop
 μ-loop counts shape seg held h keys₀ level₀ half₀ keys level half = shape .height - level
@@ -112,7 +113,7 @@ loop-again c =
       omega arith,
       λ ss new e f g. (
         next n ss new e f g,
-        tried-more (a .shape .height) (a .seg) (set ss (a .seg) new) (L .level) (L .keys + n .keys-in .result) (next n ss new e f g) (sym (c .if2 .left) ∙ c .before .fits2 .ensures) (L .inv .3 ss new e f g .1),
+        tried-more (sharesAt (a .shape)) (a .seg) (set ss (a .seg) new) (L .level) (L .keys + n .keys-in .result) (next n ss new e f g) (sym (c .if2 .left) ∙ c .before .fits2 .ensures) (L .inv .3 ss new e f g .1),
       ),
     )
 
@@ -120,7 +121,7 @@ returns : tie.Need-returns Inv-loop μ-loop
 returns c =
     let a = c .before .before .before .args in
     let L = c .before .loop in
-    ((omega arith, omega arith), λ ss new e f g. climbed-none (a .shape .height) (a .seg) (set ss (a .seg) new) (λ j p q. L .inv .3 ss new e f g .1 j p (omega arith)))
+    ((omega arith, omega arith), λ ss new e f g. climbed-none (sharesAt (a .shape)) (a .seg) (set ss (a .seg) new) (λ j p q. L .inv .3 ss new e f g .1 j p (omega arith)))
 
 returns-2 : tie.Need-returns-2 Inv-loop μ-loop
 returns-2 c =
@@ -129,7 +130,7 @@ returns-2 c =
     let a = start p .args in
     let L = p .before .loop in (
       (omega arith, omega (arith, small p)),
-      λ ss new e f g. climbed-here (a .shape .height) (a .seg) (set ss (a .seg) new) (L .level) (L .keys + n .keys-in .result) (omega arith)
+      λ ss new e f g. climbed-here (sharesAt (a .shape)) (a .seg) (set ss (a .seg) new) (L .level) (L .keys + n .keys-in .result) (omega arith)
           (next n ss new e f g) (sym (c .if2 .taken) ∙ c .before .fits2 .ensures) (L .inv .3 ss new e f g .1),
     )
 

@@ -11,7 +11,7 @@ no-forecast-requires c κs = search needs
 returns : tie.Need-returns
 returns c =
     let a = c .before .before .before .before .args in
-    check-misfit (a .list .now) (a .forecast .now) _ (c .before .no-forecast .ensures) (c .if1 .taken)
+    check-misfit (a .profile) (a .list .now) (a .forecast .now) _ (c .before .no-forecast .ensures) (c .if1 .taken)
 
 check-requires : tie.Need-check-requires
 check-requires c κs =

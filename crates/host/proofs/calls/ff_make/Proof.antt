@@ -11,7 +11,7 @@ no-forecast-requires c κs = search needs
 returns : tie.Need-returns
 returns c =
     let a = c .before .before .before .before .args in
-    make-misfit (a .list .now) (a .forecast .now) _ (c .before .no-forecast .ensures) (c .if1 .taken)
+    make-misfit (a .profile) (a .list .now) (a .forecast .now) _ (c .before .no-forecast .ensures) (c .if1 .taken)
 
 make-requires : tie.Need-make-requires
 make-requires c κs =

@@ -11,7 +11,7 @@ misfits-requires c κs = search needs
 returns : tie.Need-returns
 returns c =
     let a = c .before .before .before .before .before .args in
-    delete-misfit (a .list .now) (a .forecast .now) (a .key) (a .reply .now) _ (c .before .misfits .ensures) (c .if1 .taken)
+    delete-misfit (a .profile) (a .list .now) (a .forecast .now) (a .key) (a .reply .now) _ (c .before .misfits .ensures) (c .if1 .taken)
 
 delete-requires : tie.Need-delete-requires
 delete-requires c κs =

@@ -11,7 +11,7 @@ misfits-requires c κs = search needs
 returns : tie.Need-returns
 returns c =
     let a = c .before .before .before .before .before .args in
-    insert-misfit (a .list .now) (a .forecast .now) (a .key) (a .reply .now) _ (c .before .misfits .ensures) (c .if1 .taken)
+    insert-misfit (a .profile) (a .list .now) (a .forecast .now) (a .key) (a .reply .now) _ (c .before .misfits .ensures) (c .if1 .taken)
 
 insert-requires : tie.Need-insert-requires
 insert-requires c κs =

@@ -11,7 +11,7 @@ run-misfits-requires c κs = search needs
 returns : tie.Need-returns
 returns c =
     let a = c .before .before .before .before .before .before .before .args in
-    run-misfit (a .list .now) (a .forecast .now) (a .requests .now) (a .allowance) (a .totals .now) (a .reply .now) _ (c .before .run-misfits .ensures) (c .if1 .taken)
+    run-misfit (a .profile) (a .list .now) (a .forecast .now) (a .requests .now) (a .allowance) (a .totals .now) (a .reply .now) _ (c .before .run-misfits .ensures) (c .if1 .taken)
 
 run-requires : tie.Need-run-requires
 run-requires c κs =

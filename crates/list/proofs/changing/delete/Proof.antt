@@ -17,7 +17,7 @@ same-length c = search needs
 returns : tie.Need-returns
 returns c =
     let r = c .before .before .before .before .before .before .ask .ensures in
-    record { answer = answer-refused _ _ _ _ _ r _ (c .before .verdict .given .1); forecast = r .forecast; slots-left = r .slots-left }
+    record { answer = answer-refused _ _ _ _ _ _ r _ (c .before .verdict .given .1); forecast = r .forecast; slots-left = r .slots-left }
 
 enum-told : tie.Need-enum-told
 enum-told c = search needs
@@ -28,7 +28,7 @@ same-length-2 c = search needs
 returns-2 : tie.Need-returns-2
 returns-2 c =
     let r = c .before .before .before .before .before .before .ask .ensures in
-    record { answer = answer-done _ _ _ _ _ r true (c .before .enum-told .given .1) (c .if1 .taken); forecast = r .forecast; slots-left = r .slots-left }
+    record { answer = answer-done _ _ _ _ _ _ r true (c .before .enum-told .given .1) (c .if1 .taken); forecast = r .forecast; slots-left = r .slots-left }
 
 same-length-3 : tie.Need-same-length-3
 same-length-3 c = search needs
@@ -36,7 +36,7 @@ same-length-3 c = search needs
 returns-3 : tie.Need-returns-3
 returns-3 c =
     let r = c .before .before .before .before .before .before .ask .ensures in
-    record { answer = answer-done _ _ _ _ _ r false (c .before .enum-told .given .1) (c .if1 .left); forecast = r .forecast; slots-left = r .slots-left }
+    record { answer = answer-done _ _ _ _ _ _ r false (c .before .enum-told .given .1) (c .if1 .left); forecast = r .forecast; slots-left = r .slots-left }
 
 pub delete-spec : {M : Type 1} → statement M
 delete-spec =

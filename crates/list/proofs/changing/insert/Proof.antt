@@ -19,7 +19,7 @@ same-length c = search needs
 returns : tie.Need-returns
 returns c =
     let r = c .before .before .before .before .before .before .ask .ensures in
-    record { answer = answer-refused _ _ _ _ _ r _ (c .before .verdict .given .1); forecast = r .forecast; slots-left = r .slots-left }
+    record { answer = answer-refused _ _ _ _ _ _ r _ (c .before .verdict .given .1); forecast = r .forecast; slots-left = r .slots-left }
 
 enum-told : tie.Need-enum-told
 enum-told c = search needs
@@ -31,7 +31,7 @@ returns-2 : tie.Need-returns-2
 returns-2 c =
     let r = c .before .before .before .before .before .ask .ensures in
     record {
-      answer = answer-done _ _ _ _ _ r false (c .enum-told .given .1) (ap (λ (d : Answer). d .sparse) (r .answer) ∙ insert-dense _ _ _);
+      answer = answer-done _ _ _ _ _ _ r false (c .enum-told .given .1) (ap (λ (d : Answer). d .sparse) (r .answer) ∙ insert-dense _ _ _ _);
       forecast = r .forecast;
       slots-left = r .slots-left;
     }

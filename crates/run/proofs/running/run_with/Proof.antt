@@ -23,7 +23,7 @@ returns c =
     let worked = c .before .before .before .before .before in
     let s = worked .before .before .before .before in
     rw (c .add-tally .ensures)
-    (run-opened (s .args .list .now) (s .args .forecast) (s .args .requests .now) (s .args .allowance) (s .args .totals) (worked .work-lent .result) (worked .work-lent .last .0) (reading s) (worked .work-lent .ensures))
+    (run-opened (s .args .profile) (s .args .list .now) (s .args .forecast) (s .args .requests .now) (s .args .allowance) (s .args .totals) (worked .work-lent .result) (worked .work-lent .last .1 .0) (reading s) (worked .work-lent .ensures))
 
 pub run-with-spec : {M : Type 1} → statement M
 run-with-spec = tie.close (tie.spec work-lent-requires add-tally-requires same-length returns)

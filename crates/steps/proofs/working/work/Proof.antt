@@ -7,7 +7,6 @@ use Prim.Native.Nat.{_-_, _<_, _^_}
 use native.Mathlib.Nat.{pos-of-ne-zero}
 use lib.ListN.{length, drop}
 use Rattle.forecast.specs.Tidy.{Roomy}
-use Rattle.rules.specs.Shares.{shares}
 use Rattle.rules.specs.Placing.{outcome}
 use Rattle.rules.specs.Calls.{roomOf}
 use Rattle.rules.specs.Runs.{requestOf}
@@ -17,6 +16,7 @@ use Rattle.tallies.specs.Counted.{keysOf}
 use Rattle.sweeps.specs.Acts.{Acting}
 use Rattle.acts.proofs.ActedCells.{forecast-stays}
 use Rattle.steps.specs.Works.{Turned}
+use Rattle.shares.specs.Rows.{sharesAt}
 use Rattle.steps.proofs.TurnOf.{refused-moves, key-there, acting, turned-accepted, turned-refused, again}
 use Rattle.steps.proofs.MidWork.{Lent, Now, Going, going-start, ends-whole, AtRecord, turning, nearer, ends-halt, OnRecord, on-record, fits, goes-on}
 use borrow.Author.Needs.{needs}
@@ -83,7 +83,7 @@ module _ (c : tie.Joined3 Inv-loop μ-loop) where
       (length (c .if3 .list) ≡ length (here w .slots)) × (length (c .if3 .counts) ≡ length (here w .counts)) × (length (c .if3 .bounds) ≡ length (here w .bounds))
       × (length (c .if3 .plan) ≡ length (c .before .before .before .before .before .before .before .before .before .before .before .loop .plan))
 
-  settled : Turned (outcome (shares (lent w .shape .height)) (requestOf (drop (here w .tally .place) (lent w .bytes))) (roomOf (here w .slots) (here w .forecast)))
+  settled : Turned (outcome (sharesAt (lent w .shape)) (requestOf (drop (here w .tally .place) (lent w .bytes))) (roomOf (here w .slots) (here w .forecast)))
       (c .if3 .list) (c .if3 .forecast) (c .if3 .bounds) (c .if3 .counts) (lent w .shape) (keysOf (here w .keys) (aimed w)) × Same
   settled =
       ⊎-elim

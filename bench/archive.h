@@ -1,21 +1,33 @@
-// A list of the archive with its forecast and totals, lent to the C calls by one profile: the first, but for what compares the two.
+// A list of the archive with its table, forecast and totals, lent to the C calls by one profile: the first, but for what compares the two.
 #ifndef BENCH_ARCHIVE_H
 #define BENCH_ARCHIVE_H
+#include <algorithm>
+
 #include "../include/ffalwenog.h"
 #include "patterns.h"
 
 struct List {
   uint64_t profile;
   std::vector<uint64_t> slots, forecast = std::vector<uint64_t>(FF_FORECAST, 0);
+  std::vector<size_t> table; // the keys in each segment, in each window of two, .. and in the whole list
   uint32_t totals[FF_TOTALS] = {0, 0, 0, 0}; // records worked, records refused, keys moved, sweeps
 
-  explicit List(uint64_t profile = 1, size_t size = SLOTS) : profile(profile), slots(size, 0) {}
+  explicit List(uint64_t profile = 1, size_t size = SLOTS) : profile(profile), slots(size, 0), table(2 * (size / SEGMENT) - 1, 0) {}
+
+  // Holds these slots from here on, as many as before, with their table.
+  void hold(const std::vector<uint64_t> &others) {
+    slots = others;
+    const size_t n = slots.size() / SEGMENT;
+    for (size_t s = 0; s < n; s++)
+      table[s] = SEGMENT - size_t(std::count(slots.begin() + long(s * SEGMENT), slots.begin() + long((s + 1) * SEGMENT), 0));
+    for (size_t e = 0; e < n - 1; e++) table[n + e] = table[2 * e] + table[2 * e + 1];
+  }
 
   // A whole run of records, with no end to the allowance: the moves.
   uint64_t run(const std::vector<uint8_t> &requests) {
     uint64_t reply[4] = {0, 0, 0, 0};
-    ff_run(profile, slots.data(), slots.size(), forecast.data(), FF_FORECAST, requests.data(), requests.size(), UINT64_MAX, totals,
-           FF_TOTALS, reply, 4);
+    ff_run(profile, slots.data(), slots.size(), table.data(), table.size(), forecast.data(), FF_FORECAST, requests.data(),
+           requests.size(), UINT64_MAX, totals, FF_TOTALS, reply, 4);
     return reply[2];
   }
 
@@ -23,23 +35,26 @@ struct List {
   bool work(const Request &q, uint64_t &moves) {
     uint64_t reply[2] = {0, 0};
     const auto act = q.insert ? ff_insert : ff_delete;
-    const uint64_t number = act(profile, slots.data(), slots.size(), forecast.data(), FF_FORECAST, q.key, reply, 2);
+    const uint64_t number = act(profile, slots.data(), slots.size(), table.data(), table.size(), forecast.data(), FF_FORECAST, q.key,
+                                reply, 2);
     moves += reply[0];
     return number == 0;
   }
 
-  bool sound() const { return ff_check(profile, slots.data(), slots.size(), forecast.data(), FF_FORECAST) == 0; }
+  bool sound() const {
+    return ff_check(profile, slots.data(), slots.size(), table.data(), table.size(), forecast.data(), FF_FORECAST) == 0;
+  }
 
   bool has(uint64_t key) const {
     uint64_t reply[2] = {0, 0};
-    ff_lookup(profile, slots.data(), slots.size(), key, reply, 2);
+    ff_lookup(profile, slots.data(), slots.size(), table.data(), table.size(), key, reply, 2);
     return reply[0] == 1;
   }
 
   // Writes at most `room` keys above `from`: how many.
   size_t scan(uint64_t from, uint64_t *output, size_t room) const {
     uint64_t reply[2] = {0, 0};
-    ff_scan(profile, slots.data(), slots.size(), from, output, room, reply, 2);
+    ff_scan(profile, slots.data(), slots.size(), table.data(), table.size(), from, output, room, reply, 2);
     return reply[0];
   }
 };

@@ -26,7 +26,7 @@ static std::vector<uint64_t> live(const std::vector<uint64_t> &slots) {
 // The archive's outcome of one request on these slots with an empty forecast; the slots become those after it.
 static Outcome by_archive(std::vector<uint64_t> &slots, const Request &q) {
   List list;
-  list.slots = slots;
+  list.hold(slots);
   const uint64_t moves = list.run(records({q}));
   slots = list.slots;
   return {moves, list.totals[3] == 1};
@@ -65,8 +65,8 @@ static void compare(const Pattern &p) {
   }
   must(live(second.slots) == live(single.slots), "the profiles hold other keys", p, p.requests.size());
   const uint64_t moves = whole.run(records(p.requests));
-  must(moves == rules && whole.slots == single.slots && whole.forecast == single.forecast, "a run and single calls differ", p,
-       p.requests.size());
+  must(moves == rules && whole.slots == single.slots && whole.table == single.table && whole.forecast == single.forecast,
+       "a run and single calls differ", p, p.requests.size());
   printf("pattern\t%s\t%zu\t%zu\t%llu\t%u\t%llu\t%llu\n", p.name.c_str(), p.requests.size(), live(single.slots).size(),
          (unsigned long long)moves, whole.totals[3], (unsigned long long)spaced.moves, (unsigned long long)spaced.sweeps);
 }

@@ -1,4 +1,4 @@
-// The same work on each set: the requests of each pattern, then lookups and scans on 2,048 random keys.
+// The same work on each set: the requests of each pattern, then lookups and scans on 2,048 random keys. Then a lookup's own part.
 // `speed count` marks the regions for the counter and names them; `speed time` times them (rows.h). Stops where two sets differ.
 #include <cstring>
 
@@ -23,12 +23,17 @@ template <class Set> void requests(Rows &rows, const Pattern &p) {
   rows.agree(p.name + ": keys", Set::name, hash(keys));
 }
 
-template <class Set> void lookups(Rows &rows, const char *name, const Set &set, const Keys &keys) {
-  Keys found(keys.size());
+// A row of lookups: which of the keys were found.
+template <class Set> Keys found(Rows &rows, const char *name, const Set &set, const Keys &keys) {
+  Keys is(keys.size());
   rows.row(name, keys.size(), set, [&](Set &s) {
-    for (size_t i = 0; i < keys.size(); i++) found[i] = s.has(keys[i]);
+    for (size_t i = 0; i < keys.size(); i++) is[i] = s.has(keys[i]);
   });
-  rows.agree(name, Set::name, hash(found));
+  return is;
+}
+
+template <class Set> void lookups(Rows &rows, const char *name, const Set &set, const Keys &keys) {
+  rows.agree(name, Set::name, hash(found(rows, name, set, keys)));
 }
 
 // Scans of `room` keys above each of these. An operation is a key written.
@@ -73,6 +78,53 @@ template <class Set> void check(Rows &rows, const Pattern &random) {
   rows.agree("check alone", "a sound list", true);
 }
 
+// A lookup's own part is what it takes beyond a lookup of 0, which is refused after the whole check.
+struct Lookup : List {
+  static constexpr const char *name = "lookup";
+};
+struct Refused : List {
+  static constexpr const char *name = "lookup of 0: its check";
+};
+
+static void own_part(Rows &rows, const char *name, const List &list, const Keys &live) {
+  const size_t n = live.size();
+  const bool right = found(rows, name, Lookup{list}, live) == Keys(n, 1) && found(rows, name, Refused{list}, Keys(n, 0)) == Keys(n, 0);
+  rows.agree(name, "the archive", list.sound() && right);
+  rows.agree(name, "a sound list with these keys", true);
+}
+
+// A list with 16 keys in each of these segments and none in the others, and the keys of the first.
+static List only_in(const std::vector<size_t> &segments, Keys &first) {
+  Keys slots(SLOTS, 0);
+  for (size_t s : segments)
+    for (size_t i = 0; i < 16; i++) slots[s * SEGMENT + i] = s * SEGMENT + i + 1;
+  first.assign(slots.begin() + long(segments[0] * SEGMENT), slots.begin() + long(segments[0] * SEGMENT + 16));
+  List list;
+  list.hold(slots);
+  return list;
+}
+
+// Lists with many empty segments. In the last, the way down to the first segment leaves six halves to its right, and each has keys in
+// its last segment alone.
+static const struct {
+  const char *name;
+  std::vector<size_t> segments;
+} FEW[] = {{"only the first has keys", {0}}, {"only the last has keys", {63}}, {"the last of each right half", {0, 1, 3, 7, 15, 31, 63}}};
+
+static void own_parts(Rows &rows, const Pattern &random) {
+  List all;
+  all.run(records(random.requests));
+  rows.agree("filled segments", "random", SEGMENTS - size_t(std::count(all.table.begin(), all.table.begin() + SEGMENTS, 0)));
+  rows.agree("filled segments", "the height", SEGMENTS);
+  Keys keys;
+  for (const Request &q : random.requests) keys.push_back(q.key);
+  own_part(rows, "all segments have keys", all, keys);
+  for (const auto &few : FEW) {
+    const List list = only_in(few.segments, keys);
+    own_part(rows, few.name, list, keys);
+  }
+}
+
 int main(int, char **argv) {
   Rows rows(strcmp(argv[1], "time") == 0);
   setvbuf(stdout, nullptr, _IOFBF, 1 << 16);
@@ -90,4 +142,5 @@ int main(int, char **argv) {
   reading<Singly<Binary>>(rows, random);
   reading<Singly<Broad>>(rows, random);
   reading<Singly<Sorted>>(rows, random);
+  own_parts(rows, random);
 }

@@ -9,7 +9,8 @@
 #include "ffalwenog.h"
 
 enum { ROOMY = 1, TIGHT = 2 };                                    /* the two profiles; the classroom uses the first */
-enum { SEGMENT = 64, SEGMENTS = 4, SLOTS = SEGMENT * SEGMENTS }; /* height 2: 64 * 2^2 slots, so at most 128 keys */
+enum { HEIGHT = 2, SEGMENT = 64, SEGMENTS = 1 << HEIGHT, SLOTS = SEGMENT * SEGMENTS }; /* 256 slots, so at most 128 keys */
+enum { ENTRIES = FF_TABLE(HEIGHT) };                              /* 7: four segments, two windows of two, and the whole list */
 enum { FLOODING = 1, CARGO_SHIFT = 2, PUMP_FAILURE = 3 };         /* kinds of events */
 enum { INSERT = 1, DELETE = 2 };                                  /* kinds of requests */
 enum { ALLOWANCE = 300 }; /* moves of one run; a single record never needs more than 128, the keys of a full list */
@@ -17,6 +18,7 @@ enum { ALLOWANCE = 300 }; /* moves of one run; a single record never needs more 
 /* All that a classroom keeps, and lends to the calls. */
 struct room {
     uint64_t list[SLOTS];
+    size_t table[ENTRIES];
     uint64_t forecast[FF_FORECAST];
     uint32_t totals[FF_TOTALS];
 };
@@ -62,23 +64,28 @@ static uint64_t forecast_count(const struct room *room, uint64_t marker)
     return 0;
 }
 
-/* Draws a line a segment: '.' a gap, '#' a key, and a digit for a key behind which the forecast awaits more: its cell's count. */
+/* Draws a line a segment: '.' a gap, '#' a key, and a digit for a key behind which the forecast awaits more: its cell's count. Behind it,
+   the count that the table has for the segment. */
 static void draw(const struct room *room)
 {
     for (int segment = 0; segment < SEGMENTS; segment++) {
-        int keys = 0;
         printf("  segment %d  ", segment);
         for (int i = 0; i < SEGMENT; i++) {
             uint64_t key = room->list[SEGMENT * segment + i];
             uint64_t count = key == 0 ? 0 : forecast_count(room, key);
-            keys += key != 0;
             putchar(key == 0 ? '.' : count == 0 ? '#' : (int)('0' + count)); /* at height 2 no count is above 8 */
         }
-        printf(" %3d keys", keys);
+        printf(" %3zu keys", room->table[segment]);
         if (segment == 0 && forecast_count(room, 0) != 0)
             printf(", and the front's cell counts %" PRIu64, forecast_count(room, 0));
         putchar('\n');
     }
+}
+
+/* The classroom's insert of a key, by any profile. */
+static uint64_t insert(struct room *room, uint64_t profile, uint64_t key, uint64_t *moves)
+{
+    return ff_insert(profile, room->list, SLOTS, room->table, ENTRIES, room->forecast, FF_FORECAST, key, moves, 1);
 }
 
 /* Loads the plan of the exercise: from 09:00 an event every other minute, the kinds in turn. */
@@ -86,11 +93,9 @@ static void load(struct room *room)
 {
     uint64_t moves;
 
-    must("make", ff_make(ROOMY, room->list, SLOTS, room->forecast, FF_FORECAST), 0);
-    for (unsigned i = 0; i < 80; i++) {
-        uint64_t key = event(9, 2 * i, FLOODING + i % 3, 1 + i % 5);
-        must("insert", ff_insert(ROOMY, room->list, SLOTS, room->forecast, FF_FORECAST, key, &moves, 1), 0);
-    }
+    must("make", ff_make(ROOMY, room->list, SLOTS, room->table, ENTRIES, room->forecast, FF_FORECAST), 0);
+    for (unsigned i = 0; i < 80; i++)
+        must("insert", insert(room, ROOMY, event(9, 2 * i, FLOODING + i % 3, 1 + i % 5), &moves), 0);
     printf("The plan: 80 events from 09:00, every other minute. ('#' a key, '.' a gap, a digit the count of a marker's cell.)\n");
     draw(room);
 }
@@ -116,7 +121,7 @@ static void work(struct room *room, const struct requests *requests)
     uint64_t number, reply[4]; /* records worked, records refused, moves, byte place */
 
     do {
-        number = ff_run(ROOMY, room->list, SLOTS, room->forecast, FF_FORECAST, requests->bytes + place,
+        number = ff_run(ROOMY, room->list, SLOTS, room->table, ENTRIES, room->forecast, FF_FORECAST, requests->bytes + place,
                         requests->length - place, ALLOWANCE, room->totals, FF_TOTALS, reply, 4);
         if (number != 10)
             must("run", number, 0);
@@ -153,10 +158,10 @@ static void look(const struct room *room)
 {
     uint64_t found[2], keys[6], reply[2];
 
-    must("lookup", ff_lookup(ROOMY, room->list, SLOTS, event(10, 1, FLOODING, 7), found, 2), 0);
+    must("lookup", ff_lookup(ROOMY, room->list, SLOTS, room->table, ENTRIES, event(10, 1, FLOODING, 7), found, 2), 0);
     must("the key is live", found[0], 1);
     printf("\nThe flooding of compartment 7 at 10:01 is in segment %" PRIu64 ". Six events from 10:00 on:\n", found[1]);
-    must("scan", ff_scan(ROOMY, room->list, SLOTS, event(10, 0, 0, 0), keys, 6, reply, 2), 0);
+    must("scan", ff_scan(ROOMY, room->list, SLOTS, room->table, ENTRIES, event(10, 0, 0, 0), keys, 6, reply, 2), 0);
     must("keys written", reply[0], 6);
     for (int i = 0; i < 6; i++)
         print_event(keys[i]);
@@ -164,32 +169,36 @@ static void look(const struct room *room)
     printf("  and more after these\n");
 }
 
+/* An insert that is refused by this number, with nothing changed, for this reason. */
+static void refused(struct room *room, uint64_t profile, uint64_t key, uint64_t number, const char *why)
+{
+    struct room before = *room;
+    uint64_t moves = 9;
+
+    must(why, insert(room, profile, key, &moves), number);
+    must("moves", moves, 0);
+    must("a change", memcmp(room, &before, sizeof before) != 0, 0);
+    printf("  %" PRIu64 "  %s\n", number, why);
+}
+
 /* Refused calls leave everything as it was, even where the classroom's own memory is damaged. */
 static void refusals(struct room *room)
 {
-    struct room before = *room;
-    uint64_t moves = 9, sound = room->list[5];
+    const uint64_t present = event(10, 1, FLOODING, 7), new_one = event(12, 0, FLOODING, 1), sound = room->list[5];
 
     printf("\nRefused, with nothing changed:\n");
-    must("the same key twice",
-         ff_insert(ROOMY, room->list, SLOTS, room->forecast, FF_FORECAST, event(10, 1, FLOODING, 7), &moves, 1), 6);
-    must("moves", moves, 0);
-    must("a change", memcmp(room, &before, sizeof before) != 0, 0);
-    printf("  6  the same key twice\n");
+    refused(room, ROOMY, present, 6, "the same key twice");
+    refused(room, 3, new_one, 15, "a profile that is neither 1 nor 2");
 
-    must("no such profile", ff_insert(3, room->list, SLOTS, room->forecast, FF_FORECAST, event(12, 0, FLOODING, 1), &moves, 1), 15);
-    must("a change", memcmp(room, &before, sizeof before) != 0, 0);
-    printf("  15  a profile that is neither 1 nor 2\n");
-
-    before.list[5] = room->list[5] = room->list[4]; /* keys no longer rise strictly */
-    must("a damaged slot",
-         ff_insert(ROOMY, room->list, SLOTS, room->forecast, FF_FORECAST, event(12, 0, FLOODING, 1), &moves, 1), 2);
-    must("a change", memcmp(room, &before, sizeof before) != 0, 0);
-    printf("  2  an insert while slot 5 is damaged\n");
-
+    room->list[5] = room->list[4]; /* keys no longer rise strictly */
+    refused(room, ROOMY, new_one, 2, "an insert while slot 5 is damaged");
     room->list[5] = sound;
-    must("check", ff_check(ROOMY, room->list, SLOTS, room->forecast, FF_FORECAST), 0);
-    printf("The slot mended, the check gives 0.\n");
+    room->table[ENTRIES - 1]++; /* one key too many in the whole list */
+    refused(room, ROOMY, new_one, 14, "an insert while the table's last count is damaged");
+    room->table[ENTRIES - 1]--;
+
+    must("check", ff_check(ROOMY, room->list, SLOTS, room->table, ENTRIES, room->forecast, FF_FORECAST), 0);
+    printf("Slot and count mended, the check gives 0.\n");
 }
 
 /* Rising keys into an empty list of the same memory until the profile allows no more: how many, and their moves. */
@@ -198,8 +207,8 @@ static void fill(uint64_t profile)
     static struct room room;
     uint64_t keys = 0, moves, all = 0, number;
 
-    must("make", ff_make(profile, room.list, SLOTS, room.forecast, FF_FORECAST), 0);
-    while ((number = ff_insert(profile, room.list, SLOTS, room.forecast, FF_FORECAST, keys + 1, &moves, 1)) == 0) {
+    must("make", ff_make(profile, room.list, SLOTS, room.table, ENTRIES, room.forecast, FF_FORECAST), 0);
+    while ((number = insert(&room, profile, keys + 1, &moves)) == 0) {
         keys++;
         all += moves;
     }

@@ -26,6 +26,8 @@ def difference(driver, lent):
     """Makes one call both ways. Gives the outcome by the model, and None or what differs."""
     driver.ask(lent)
     returned, after = oracle.outcome(lent)
+    if wire.lengths(after) != wire.lengths(lent):
+        return (returned, after), "returned %d by the model, with a slice of another length" % returned
     wanted = wire.answer(returned, after)
     got = driver.answered(len(wanted))
     if got == wanted:
@@ -91,7 +93,7 @@ def tasks(args, program):
         group, height, episode = args.again.split(":")
         return [Task(group, int(height), ENDLESS, args.seed, program, [int(episode)])]
     pairs = [(group, height) for height in sorted(args.heights, reverse=True) for group in args.groups]
-    whole = [Task(*pair, ENDLESS, args.seed, program, range(cases.WHOLE[pair[0]])) for pair in pairs if pair[0] in cases.WHOLE]
+    whole = [Task(*pair, ENDLESS, args.seed, program, range(cases.WHOLE[pair[0]](pair[1]))) for pair in pairs if pair[0] in cases.WHOLE]
     pairs = [pair for pair in pairs if pair[0] not in cases.WHOLE]
     shares = [args.count // len(pairs) + (n < args.count % len(pairs)) for n in range(len(pairs))]
     return whole + [Task(*pair, calls, args.seed, program, range(ENDLESS)) for pair, calls in zip(pairs, shares) if calls]

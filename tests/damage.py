@@ -1,4 +1,4 @@
-"""Damaged lists and forecasts: each damage takes a hand with a good list and forecast, and harms one of them."""
+"""Damaged lists, tables and forecasts: each damage takes a hand with a good list, table and forecast, and harms one of them."""
 import model
 from starts import TOP, cell, some_forecast, some_list, spread
 
@@ -65,11 +65,88 @@ def too_many(hand):
     """More keys than the profile allows, in good order."""
     over, slots = model.most_keys(hand.profile, hand.h) + 1, model.SEGMENT * 2 ** hand.h
     m = hand.rng.choice((over, over, hand.rng.randint(over, slots), slots))
-    hand.list = some_list(hand.rng, spread(hand.rng, m, 2 ** hand.h))
+    hand.lay(some_list(hand.rng, spread(hand.rng, m, 2 ** hand.h)))
 
 
 ORDER = (equal, falling, equal_apart, falling_apart, gap_within, after_gap)
 LISTS = (length, too_many, length) + ORDER
+
+
+# ---- Tables: segments first, then the levels above them, each left to right ----------------------------------------------------
+
+def entry(hand, place, value):
+    hand.table = hand.table[:place] + [value] + hand.table[place + 1:]
+
+
+def others(right):
+    """What else stands in the place of the right count: one more or less, what fewer bits would take for it, and the ends."""
+    return sorted({(right + step) % (TOP + 1) for step in (1, -1, 256, 2 ** 16, 2 ** 32, 2 ** 63)} | {0, TOP} - {right})
+
+
+def wrong_entry(hand):
+    """One count is wrong: of the first or the last window, or of any."""
+    place = hand.rng.choice((0, -1, hand.rng.randrange(len(hand.table)))) % len(hand.table)
+    entry(hand, place, hand.rng.choice(others(hand.table[place])))
+
+
+def exchanged(hand):
+    """Two neighbouring counts change places."""
+    place = hand.rng.randrange(len(hand.table) - 1)
+    first, second = hand.table[place:place + 2]
+    entry(hand, place, second)
+    entry(hand, place + 1, first)
+
+
+def round_segment(hand, level):
+    """The place of the window of this level round any segment."""
+    segments = 2 ** hand.h
+    return 2 * segments - (2 * segments >> level) + (hand.rng.randrange(segments) >> level)
+
+
+def summed_wrongly(hand):
+    """A window counts one key too many, and so do all windows round it, each the sum of its halves."""
+    place = round_segment(hand, hand.rng.choice((0, 0, hand.rng.randint(0, hand.h))))
+    while place < len(hand.table):
+        entry(hand, place, hand.table[place] + 1)
+        place = 2 ** hand.h + place // 2
+
+
+def counted_beside(hand):
+    """A key counts in the other half of a window: the windows round both are right."""
+    place = round_segment(hand, hand.rng.randrange(hand.h)) & -2
+    step = hand.rng.choice((1, -1))
+    entry(hand, place, (hand.table[place] + step) % (TOP + 1))
+    entry(hand, place + 1, (hand.table[place + 1] - step) % (TOP + 1))
+
+
+def whole_first(hand):
+    """The levels are in the other order, the whole list first."""
+    levels = [hand.table[2 * 2 ** hand.h - 2 * n:2 * 2 ** hand.h - n] for n in (2 ** l for l in range(hand.h + 1))]
+    hand.table = sum(levels, [])
+
+
+def not_summed(hand):
+    """From a window on, of level 1 or above, all counts are 0."""
+    place = round_segment(hand, hand.rng.randint(1, hand.h))
+    hand.table = hand.table[:place] + [0] * (len(hand.table) - place)
+
+
+def another_list(hand):
+    """The table of the list without one of its keys."""
+    segments = model.to_segments(hand.list)
+    hand.rng.choice([keys for keys in segments if keys]).pop()
+    hand.table = model.table_of(model.to_slots(segments))
+
+
+def table_length(hand):
+    """A length that is not the height's: nothing, one entry less or more, or that of another height; right as far as it goes."""
+    size = len(hand.table)
+    n = hand.rng.choice([0, size - 1, size + 1] + [model.table_size(h) for h in range(7) if h != hand.h])
+    longer = hand.table + hand.rng.choice(([0], hand.junk(1))) * max(0, n - size)
+    hand.table = hand.rng.choice((longer[:n], longer[len(longer) - n:]))
+
+
+TABLES = (wrong_entry, table_length, exchanged, summed_wrongly, counted_beside, whole_first, not_summed, another_list)
 
 
 # ---- Forecasts: word 0 is the number used, cell i begins at word 1 + 3i --------------------------------------------------------

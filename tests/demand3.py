@@ -61,10 +61,10 @@ class Recorder:
         self.again = collections.Counter()      # windows swept again, by profile, level and kind
 
     def high(self, level):
-        return model.TABLE[self.profile][self.h][0][level]
+        return model.SHARES[self.profile][self.h][0][level]
 
     def low(self, level):
-        return model.TABLE[self.profile][self.h][1][level]
+        return model.SHARES[self.profile][self.h][1][level]
 
     def afresh(self, profile=None):
         """Nothing from before counts from here on."""

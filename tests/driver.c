@@ -2,7 +2,7 @@
 
    Asked, in words of 64 bits, low byte first: the call (1 to 7, in the order of the header; 8, the run over lent totals as a struct),
    the profile, the call's number (key, from or allowance),
-   the lengths of the six slices below in elements; then their contents. A slice that the call does not take is left alone.
+   the lengths of the seven slices below in elements; then their contents. A slice that the call does not take is left alone.
    Answered: the word returned; then each slice with GUARD bytes before it and after it, as they now are. */
 #include "ffalwenog.h"
 #include "over.h"
@@ -10,11 +10,11 @@
 #include <stdio.h>
 #include <stdlib.h>
 
-enum { LIST, FORECAST, REQUESTS, TOTALS, OUTPUT, REPLY, SLICES };
+enum { LIST, TABLE, FORECAST, REQUESTS, TOTALS, OUTPUT, REPLY, SLICES };
 enum { MAKE = 1, CHECK, LOOKUP, INSERT, DELETE, SCAN, RUN, OVER };
 enum { GUARD = 32, MOST = 1 << 20, HEAD = 3 + SLICES };
 
-static const size_t width[SLICES] = {8, 8, 1, 4, 8, 8};
+static const size_t width[SLICES] = {8, sizeof(size_t), 8, 1, 4, 8, 8};
 
 /* Guards and content stand in one piece of memory; the content is aligned as its elements ask, and no better. */
 struct slice {
@@ -48,21 +48,22 @@ static void lend(struct slice *s, size_t element, size_t length)
 static uint64_t call(uint64_t ask, uint64_t profile, uint64_t number, struct slice *s)
 {
     uint64_t *list = s[LIST].content, *forecast = s[FORECAST].content, *output = s[OUTPUT].content, *reply = s[REPLY].content;
-    size_t n = s[LIST].length, f = s[FORECAST].length, r = s[REPLY].length;
+    size_t *table = s[TABLE].content, n = s[LIST].length, t = s[TABLE].length, f = s[FORECAST].length, r = s[REPLY].length;
 
     switch (ask) {
-    case MAKE: return ff_make(profile, list, n, forecast, f);
-    case CHECK: return ff_check(profile, list, n, forecast, f);
-    case LOOKUP: return ff_lookup(profile, list, n, number, reply, r);
-    case INSERT: return ff_insert(profile, list, n, forecast, f, number, reply, r);
-    case DELETE: return ff_delete(profile, list, n, forecast, f, number, reply, r);
-    case SCAN: return ff_scan(profile, list, n, number, output, s[OUTPUT].length, reply, r);
+    case MAKE: return ff_make(profile, list, n, table, t, forecast, f);
+    case CHECK: return ff_check(profile, list, n, table, t, forecast, f);
+    case LOOKUP: return ff_lookup(profile, list, n, table, t, number, reply, r);
+    case INSERT: return ff_insert(profile, list, n, table, t, forecast, f, number, reply, r);
+    case DELETE: return ff_delete(profile, list, n, table, t, forecast, f, number, reply, r);
+    case SCAN: return ff_scan(profile, list, n, table, t, number, output, s[OUTPUT].length, reply, r);
     case RUN:
-        return ff_run(profile, list, n, forecast, f, s[REQUESTS].content, s[REQUESTS].length, number, s[TOTALS].content,
-                      s[TOTALS].length, reply, r);
+        return ff_run(profile, list, n, table, t, forecast, f, s[REQUESTS].content, s[REQUESTS].length, number,
+                      s[TOTALS].content, s[TOTALS].length, reply, r);
     case OVER:
         must(f == FF_FORECAST && s[TOTALS].length == FF_TOTALS && r >= 4 && has_room(forecast), "no room");
-        return run_over(profile, list, n, forecast, s[REQUESTS].content, s[REQUESTS].length, number, s[TOTALS].content, reply);
+        return run_over(profile, list, n, table, t, forecast, s[REQUESTS].content, s[REQUESTS].length, number, s[TOTALS].content,
+                        reply);
     }
     must(0, "no such call");
     return 0;

@@ -1,4 +1,4 @@
-"""The hand that lends: a list, a forecast and totals that go from call to call, mostly by the profile that they were made for."""
+"""The hand that lends: a list, its table, a forecast and totals that go from call to call, mostly by the profile that they were made for."""
 import model
 import oracle
 from starts import TOP, any_counts, some_forecast, some_list
@@ -12,13 +12,17 @@ class Hand:
         self.rng, self.h = rng, h
         self.profile = profile or rng.choice(model.PROFILES)
         counts, segment = counts(rng, self.profile, h)
-        self.list = some_list(rng, counts)
+        self.lay(some_list(rng, counts))
         self.focus = self.one_live()
         if segment is not None:
             keys = model.to_segments(self.list)[segment]
             self.focus = rng.choice((keys[0], keys[-1], rng.choice(keys)))
         self.forecast = some_forecast(rng, h, self.list, near=self.focus if self.focus in self.list else 0)
         self.totals = [rng.choice((0, 2 ** 32 - 1, rng.randrange(2 ** 32))) for _ in range(oracle.TOTALS)]
+
+    def lay(self, slots):
+        """Another good list, and its table."""
+        self.list, self.table = model.tabled(slots)
 
     def live(self):
         return model.live_keys(self.list)
@@ -52,7 +56,7 @@ class Hand:
         """A call with all that it takes; its reply is at times longer than listed."""
         reply = oracle.LISTED[call]
         profile = self.named() if profile is None else profile
-        lent = Lent(call, profile, number, self.list, reply=self.junk(reply + self.rng.choice((0, 0, 1, 3))))
+        lent = Lent(call, profile, number, self.list, self.table, reply=self.junk(reply + self.rng.choice((0, 0, 1, 3))))
         if call in oracle.WITH_FORECAST:
             lent.forecast = self.forecast
         if call == "run":
@@ -65,7 +69,7 @@ class Hand:
         """Makes a call, and goes on with what it left."""
         lent = self.lend(call, number, **more)
         returned, after = yield lent
-        self.list = after.list
+        self.list, self.table = after.list, after.table
         if lent.forecast:
             self.forecast = after.forecast
         if lent.totals:

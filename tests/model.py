@@ -1,6 +1,7 @@
 #!/usr/bin/env python3
 """Reference model of the paper "Requirements and rules for the build", with
-the tighter profile of "Further requests from customers", (v).
+the tighter profile and the counts beside the windows of "Further requests from
+customers", (v) and (iv).
 
 Section names in the comments are that paper's. Every rule is written as it is
 read there, plainly and slowly. No call changes what it is lent: each hands
@@ -8,27 +9,30 @@ back new lists.
 
   profile   1 or 2; any other number is refused by 15
   array     a list of whole numbers, 0 for a gap
+  table     a list of counts, one for every window of every level
   forecast  a pair (used, cells), cells a list of 12 [marker, segment, count],
             head (newest) first
   totals    [records worked, refused, keys moved, sweeps]
 
-  make(profile, slots)           -> (number, slots', forecast')
-  check(profile, slots, forecast)
+  make(profile, slots, table)    -> (number, slots', table', forecast')
+  check(profile, slots, table, forecast)
         -> number
-  lookup(profile, slots, key)    -> (number, present, segment)
-  insert(profile, slots, forecast, key)
-        -> (number, moves, slots', forecast')
-  delete(profile, slots, forecast, key)
-        -> (number, moves, sparse, slots', forecast')
-  scan(profile, slots, a, output)
+  lookup(profile, slots, table, key)
+        -> (number, present, segment)
+  insert(profile, slots, table, forecast, key)
+        -> (number, moves, slots', table', forecast')
+  delete(profile, slots, table, forecast, key)
+        -> (number, moves, sparse, slots', table', forecast')
+  scan(profile, slots, table, a, output)
         -> (number, written, more, output')
-  run(profile, slots, forecast, data, allowance, totals)
-        -> (worked, refused, moves, stop, place, slots', forecast', totals')
+  run(profile, slots, table, forecast, data, allowance, totals)
+        -> (worked, refused, moves, stop, place, slots', table', forecast',
+            totals')
   first_fault(slots)             -> None or (slot, 'order' or 'gap')
   first_bad_cell(profile, slots, forecast)
         -> None or (cell, reason)
 
-  python3 model.py --selftest          the paper's sums, and profile 2's
+  python3 model.py --selftest          the paper's sums, profile 2's, tables
   python3 model.py --listrun < file    the program `listrun`
   python3 model.py --random [n [seed]] the demands, tried on random requests
 """
@@ -80,6 +84,28 @@ def to_slots(segments):
 def window_start(segment, level):
     """First segment of the window of this level round the segment."""
     return segment - segment % 2 ** level
+
+
+# ---- Counts beside the windows -------------------------------------------
+
+def counts(slots):
+    """The keys in each segment."""
+    return [len(keys) for keys in to_segments(slots)]
+
+
+def table_size(h):
+    """Entries of a table: 2^h segments, half as many windows of level 1, ..
+    and the one of level h."""
+    return 2 ** (h + 1) - 1
+
+
+def table_of(slots):
+    """The keys in every window of every level: segments first, each level
+    left to right."""
+    sizes = counts(slots)
+    return [sum(sizes[start:start + 2 ** l])
+            for l in range(height(slots) + 1)
+            for start in range(0, len(sizes), 2 ** l)]
 
 
 # ---- High and low shares -------------------------------------------------
@@ -242,7 +268,7 @@ def share_out(profile, h, l, start, keys, weights):
                         weights))
 
 
-# ---- Refusals 15 and 1 to 4 ----------------------------------------------
+# ---- Refusals 15, 1 to 4 and 14 ------------------------------------------
 
 def first_fault(slots):
     """First slot that breaks refusal 2's rule, order tested first.
@@ -314,26 +340,56 @@ def first_bad_cell(profile, slots, forecast, earlier_only=False):
     return None
 
 
-def check(profile, slots, forecast):
-    """Tests 15 and 1 to 4, gives 0 when none applies."""
+def wrong_table(slots, table):
+    """The table has the wrong length or a wrong entry. For a good list."""
+    return list(table) != table_of(slots)
+
+
+def read_refusal(profile, slots, table):
+    """Where no forecast is lent: refusals 15 and 1 to 3, then 14, or 0."""
+    number = list_refusal(profile, slots)
+    if number == 0 and wrong_table(slots, table):
+        number = 14
+    return number
+
+
+def check(profile, slots, table, forecast):
+    """Tests 15, 1 to 4 and then 14, gives 0 when none applies."""
     number = list_refusal(profile, slots)
     if number == 0 and first_bad_cell(profile, slots, forecast) is not None:
         number = 4
+    if number == 0 and wrong_table(slots, table):
+        number = 14
     return number
 
 
 # ---- Making, lookup, scan ------------------------------------------------
 
-def make(profile, slots):
+def make_refusal(profile, slots, table):
+    """A table to be filled is tested for its length only."""
     if profile not in PROFILES:
-        return (15, list(slots), as_forecast([]))
+        return 15
     if height(slots) is None:
-        return (1, list(slots), as_forecast([]))
-    return (0, [0] * len(slots), as_forecast([]))
+        return 1
+    if len(table) != table_size(height(slots)):
+        return 14
+    return 0
 
 
-def lookup(profile, slots, key):
-    number = list_refusal(profile, slots)
+def make(profile, slots, table):
+    number = make_refusal(profile, slots, table)
+    if number != 0:
+        return (number, list(slots), list(table), as_forecast([]))
+    return (0, [0] * len(slots), [0] * len(table), as_forecast([]))
+
+
+def made_empty(profile, h):
+    """An empty list of this height with its table and forecast."""
+    return make(profile, [0] * (SEGMENT * 2 ** h), [0] * table_size(h))[1:]
+
+
+def lookup(profile, slots, table, key):
+    number = read_refusal(profile, slots, table)
     if number == 0 and key == 0:
         number = 5
     if number != 0:
@@ -343,9 +399,9 @@ def lookup(profile, slots, key):
     return (0, False, 0)
 
 
-def scan(profile, slots, a, output):
+def scan(profile, slots, table, a, output):
     output = list(output)
-    number = list_refusal(profile, slots)
+    number = read_refusal(profile, slots, table)
     if number != 0:
         return (number, 0, False, output)
     above = [key for key in live_keys(slots) if key > a]
@@ -360,7 +416,8 @@ def scan(profile, slots, a, output):
 #
 # The two below take a checked list and forecast, and test 5 to 8. They give
 # (number, moves, sparse, window, slots', forecast'), window being None or the
-# chosen one as (level, first segment).
+# chosen one as (level, first segment). The table is for those who call them:
+# it always is the list's own.
 
 def sweep(profile, h, segments, at, l, extra, forecast):
     """Sweep the window of level l round segment at. Gives its moves."""
@@ -444,22 +501,23 @@ def work_delete(profile, slots, forecast, y):
     return (0, moves, sparse, window, slots, retarget(forecast, slots))
 
 
-def insert(profile, slots, forecast, key):
-    number = check(profile, slots, forecast)
+def insert(profile, slots, table, forecast, key):
+    number = check(profile, slots, table, forecast)
     if number != 0:
-        return (number, 0, list(slots), copy_forecast(forecast))
+        return (number, 0, list(slots), list(table), copy_forecast(forecast))
     number, moves, _, _, slots, forecast = work_insert(profile, slots,
                                                        forecast, key)
-    return (number, moves, slots, forecast)
+    return (number, moves, slots, table_of(slots), forecast)
 
 
-def delete(profile, slots, forecast, key):
-    number = check(profile, slots, forecast)
+def delete(profile, slots, table, forecast, key):
+    number = check(profile, slots, table, forecast)
     if number != 0:
-        return (number, 0, False, list(slots), copy_forecast(forecast))
+        return (number, 0, False, list(slots), list(table),
+                copy_forecast(forecast))
     number, moves, sparse, _, slots, forecast = work_delete(profile, slots,
                                                             forecast, key)
-    return (number, moves, sparse, slots, forecast)
+    return (number, moves, sparse, slots, table_of(slots), forecast)
 
 
 # ---- Request records and runs --------------------------------------------
@@ -472,13 +530,13 @@ def record(kind, key):
     return bytes([0xA5, 0x5A, kind]) + key.to_bytes(8, 'big')
 
 
-def run(profile, slots, forecast, data, allowance, totals):
+def run(profile, slots, table, forecast, data, allowance, totals):
     slots = list(slots)
     forecast = copy_forecast(forecast)
     totals = list(totals)
-    number = check(profile, slots, forecast)
+    number = check(profile, slots, table, forecast)
     if number != 0:
-        return (0, 0, 0, number, 0, slots, forecast, totals)
+        return (0, 0, 0, number, 0, slots, list(table), forecast, totals)
 
     worked = refused = moved = sweeps = 0
     stop = 0
@@ -506,16 +564,16 @@ def run(profile, slots, forecast, data, allowance, totals):
 
     totals = [(total + more) % 2 ** 32
               for total, more in zip(totals, [worked, refused, moved, sweeps])]
-    return (worked, refused, moved, stop, place, slots, forecast, totals)
+    return (worked, refused, moved, stop, place, slots, table_of(slots),
+            forecast, totals)
 
 
 # ---- The program listrun -------------------------------------------------
 
 def listrun_text(data):
     """What `listrun` prints for these (at most 65,536) bytes; profile 1."""
-    _, slots, forecast = make(1, [0] * 256)
-    _, _, moves, stop, _, slots, forecast, totals = run(
-        1, slots, forecast, data, 1000000, [0, 0, 0, 0])
+    _, _, moves, stop, _, slots, _, _, totals = run(
+        1, *made_empty(1, 2), data, 1000000, [0, 0, 0, 0])
     lines = ['keys %d moved %d swept %d stop %d'
              % (len(live_keys(slots)), moves, totals[3], stop)]
     for n, keys in enumerate(to_segments(slots)):
@@ -553,10 +611,6 @@ class Tally:
         return 0 if self.failed == 0 else 1
 
 
-def counts(slots):
-    return [len(keys) for keys in to_segments(slots)]
-
-
 def list_with(*sizes, step=1):
     """An array whose segments hold these many keys, `step` apart from it on."""
     segments, key = [], step
@@ -569,15 +623,20 @@ def list_with(*sizes, step=1):
 def insert_all(h, keys):
     """Insert into an empty list, in profile 1; gives the last moves, slots,
     forecast."""
-    _, slots, forecast = make(1, [0] * (SEGMENT * 2 ** h))
+    lent = made_empty(1, h)
     for key in keys:
-        number, moves, slots, forecast = insert(1, slots, forecast, key)
+        number, moves, *lent = insert(1, *lent, key)
         assert number == 0
-    return moves, slots, forecast
+    return moves, lent[0], lent[2]
+
+
+def tabled(slots):
+    """A good list, and its table."""
+    return slots, table_of(slots)
 
 
 # Rows by hand, against the formulas: the paper's, and profile 2's.
-TABLE = {
+SHARES = {
     1: {1: ([64, 32], [7, 13]),
         2: ([64, 48, 32], [7, 10, 13]),
         3: ([64, 53, 42, 32], [7, 9, 11, 13]),
@@ -614,34 +673,116 @@ def second_profile(t):
     """Profile 2's own sums, and what the profiles make of each other's lists."""
     empty = as_forecast([])
     for sizes, (call, key), wanted in SECOND:
-        number, moves, *sparse, slots, _ = call(2, list_with(*sizes, step=10),
-                                                empty, key)
+        number, moves, *sparse, slots, table, _ = call(
+            2, *tabled(list_with(*sizes, step=10)), empty, key)
         t.same('profile 2, %r, %s %d' % (sizes, call.__name__, key),
-               (number, moves, any(sparse), counts(slots)), wanted)
+               (number, moves, any(sparse), table), wanted[:3]
+               + (wanted[3] + [sum(wanted[3])],))
+        t.same('its slots', counts(slots), wanted[3])
     for sizes, first, second in (((64, 0), 0, 0), ((64, 1), 3, 0),
                                  ((24, 64), 3, 0), ((25, 64), 3, 3)):
-        slots = list_with(*sizes)
-        t.same('%r in both' % (sizes,), (check(1, slots, empty),
-                                         check(2, slots, empty)),
+        lent = tabled(list_with(*sizes))
+        t.same('%r in both' % (sizes,), (check(1, *lent, empty),
+                                         check(2, *lent, empty)),
                (first, second))
+
+
+def every_refusal(t, number, profile, slots, table, forecast, key=0):
+    """Every call but make gives the number, and leaves all that is lent."""
+    left, name = (slots, table, forecast), '%d, ' % number
+    lent = (profile, slots, table)
+    t.same(name + 'check', check(profile, *left), number)
+    t.same(name + 'lookup', lookup(*lent, key), (number, False, 0))
+    t.same(name + 'scan', scan(*lent, 0, [9]), (number, 0, False, [9]))
+    t.same(name + 'insert', insert(profile, *left, key), (number, 0) + left)
+    t.same(name + 'delete', delete(profile, *left, key),
+           (number, 0, False) + left)
+    t.same(name + 'run', run(profile, *left, b'?', 9, [1, 2, 3, 4]),
+           (0, 0, 0, number, 0) + left + ([1, 2, 3, 4],))
+
+
+def refused_make(t, number, profile, slots, table):
+    t.same('%d, make' % number, make(profile, slots, table),
+           (number, slots, table, as_forecast([])))
 
 
 def unknown_profiles(t):
     """15 comes first of all, and leaves all that is lent."""
-    empty, bad = as_forecast([]), (13, [[9, 9, 9]] * ROOM)
+    bad = (13, [[9, 9, 9]] * ROOM)
     for profile in UNKNOWN:
         for slots in (list_with(5, 3), [5, 4, 0], list_with(64, 64)):
-            t.same('15, make', make(profile, slots), (15, slots, empty))
-            t.same('15, check', check(profile, slots, bad), 15)
-            t.same('15, lookup', lookup(profile, slots, 0), (15, False, 0))
-            t.same('15, scan', scan(profile, slots, 0, [9]),
-                   (15, 0, False, [9]))
-            t.same('15, insert', insert(profile, slots, bad, 0),
-                   (15, 0, slots, bad))
-            t.same('15, delete', delete(profile, slots, bad, 0),
-                   (15, 0, False, slots, bad))
-            t.same('15, run', run(profile, slots, bad, b'?', 9, [1, 2, 3, 4]),
-                   (0, 0, 0, 15, 0, slots, bad, [1, 2, 3, 4]))
+            for table in ([], [5, 3, 8], [5, 3, 9]):
+                every_refusal(t, 15, profile, slots, table, bad)
+                refused_make(t, 15, profile, slots, table)
+
+
+# Tables written by hand: the counts of the segments, and the levels above.
+TABLES = [
+    ((7, 30), [37]),
+    ((64, 0), [64]),
+    ((1, 2, 3, 4), [3, 7, 10]),
+    ((0, 0, 0, 5), [0, 5, 5]),
+    ((1, 2, 3, 4, 5, 6, 7, 8), [3, 7, 11, 15, 10, 26, 36]),
+]
+
+
+def wrong_ones(table):
+    """Tables that are not this one: each entry changed in turn, entries and
+    levels in other places, other lengths."""
+    for n, entry in enumerate(table):
+        for other in {entry + 1, abs(entry - 1), entry + 2 ** 32, 2 ** 64 - 1}:
+            yield table[:n] + [other] + table[n + 1:]
+    yield table[::-1]
+    yield [0] * len(table)
+    for length in (0, len(table) - 1, len(table) // 2):
+        yield table[:length]
+    yield table + [0]
+    yield table + table[-1:]
+
+
+def right_tables(t):
+    for sizes, above in TABLES:
+        slots = list_with(*sizes)
+        t.same('table of %r' % (sizes,), table_of(slots), list(sizes) + above)
+        t.same('right', check(1, slots, list(sizes) + above, as_forecast([])),
+               0)
+    for h in range(1, 7):
+        slots, table, _ = made_empty(2, h)
+        t.same('size of a table', (len(table), len(table_of(slots))),
+               (2 * 2 ** h - 1, 2 * 2 ** h - 1))
+
+
+def wrong_tables(t):
+    """14: after 15, 1 to 4, before 5, and it leaves all that is lent."""
+    empty, bad = as_forecast([]), (1, [[9, 9, 9]] * ROOM)
+    for sizes, _ in TABLES:
+        slots = list_with(*sizes)
+        falling = [0 if key == 0 else 99 - key for key in slots]
+        for table in wrong_ones(table_of(slots)):
+            if table == table_of(slots):
+                continue
+            for key in (0, 1, 99):
+                every_refusal(t, 14, 1, slots, table, empty, key)
+            t.same('4 first', check(1, slots, table, bad), 4)
+            t.same('no forecast', lookup(1, slots, table, 1)[0], 14)
+            t.same('15 first', check(3, slots, table, empty), 15)
+            t.same('1 first', check(1, slots[1:], table, empty), 1)
+            t.same('2 first', check(1, falling, table, empty), 2)
+    over = list_with(64, 1)
+    t.same('3 first', check(1, over, [64, 1, 64], empty), 3)
+    t.same('then 14', check(2, over, [64, 1, 64], empty), 14)
+
+
+def tables_to_fill(t):
+    """Make tests the length alone, after 1."""
+    for h in range(1, 7):
+        size = table_size(h)
+        slots = [9] * (SEGMENT * 2 ** h)
+        for length in (0, 1, size - 1, size + 1, 2 * size + 1, size // 2):
+            refused_make(t, 14, 1, slots, [7] * length)
+            refused_make(t, 1, 1, slots[1:], [7] * length)
+        t.same('made', make(1, slots, [2 ** 64 - 1] * size),
+               (0,) + made_empty(1, h))
 
 
 def selftest():
@@ -649,13 +790,16 @@ def selftest():
     empty = as_forecast([])
 
     for profile in PROFILES:
-        for h in TABLE[profile]:
+        for h in SHARES[profile]:
             t.same('shares of profile %d, h=%d' % (profile, h),
                    ([high(profile, h, l) for l in range(h + 1)],
                     [low(profile, h, l) for l in range(h + 1)]),
-                   TABLE[profile][h])
+                   SHARES[profile][h])
     second_profile(t)
     unknown_profiles(t)
+    right_tables(t)
+    wrong_tables(t)
+    tables_to_fill(t)
 
     moves, slots, forecast = insert_all(2, range(1, 66))
     t.same('sum 1', (moves, counts(slots), forecast[0]),
@@ -666,15 +810,14 @@ def selftest():
            (65, [17, 48, 0, 0], as_forecast([[0, 0, 7]])))
 
     for key in range(1, 8):
-        number, moves, sparse, slots, _ = delete(1, list_with(7, 30), empty, key)
-        t.same('sum 3, key %d' % key, (number, moves, counts(slots)),
-               (0, 36, [18, 18]))
-        number, moves, sparse, slots, _ = delete(1, list_with(7, 19), empty, key)
-        t.same('sum 4, key %d' % key, (number, moves, sparse, counts(slots)),
-               (0, 7 - key, True, [6, 19]))
-        number, moves, sparse, slots, _ = delete(1, list_with(7, 20), empty, key)
-        t.same('sum 5, key %d' % key, (number, moves, sparse, counts(slots)),
-               (0, 26, False, [13, 13]))
+        for name, sizes, wanted in (
+                ('sum 3', (7, 30), (0, 36, False, [18, 18, 36])),
+                ('sum 4', (7, 19), (0, 7 - key, True, [6, 19, 25])),
+                ('sum 5', (7, 20), (0, 26, False, [13, 13, 26]))):
+            *told, slots, table, _ = delete(1, *tabled(list_with(*sizes)),
+                                            empty, key)
+            t.same('%s, key %d' % (name, key), (*told, table), wanted)
+            t.same('its slots', counts(slots), table[:2])
 
     weights = [1 if n in (10, 30) else 0 for n in range(1, 38)]
     t.same('sum 6', left_share(1, 1, 1, weights, 0), 18)
@@ -682,32 +825,23 @@ def selftest():
            abs(Fraction(1, 64 - 19) - Fraction(1, 64 - 37 + 19)))
     t.same('sum 7', left_share(1, 1, 1, [0] * 37, 0), 19)
 
-    full = list_with(64, 0)
-    t.same('sum 8, new', insert(1, full, empty, 65), (8, 0, full, empty))
-    t.same('sum 8, present', insert(1, full, empty, 5), (6, 0, full, empty))
+    full = tabled(list_with(64, 0)) + (empty,)
+    t.same('sum 8, new', insert(1, *full, 65), (8, 0) + full)
+    t.same('sum 8, present', insert(1, *full, 5), (6, 0) + full)
 
     one = as_forecast([[7, 0, 3]])
-    number, _, _, _, forecast = delete(1, list_with(10, 20), one, 7)
+    number, *_, forecast = delete(1, *tabled(list_with(10, 20)), one, 7)
     t.same('sum 9', (number, forecast), (0, empty))
 
     for n in (0, 64, 192, 8192):
-        wrong = [0] * n
-        t.same('sum 10, make %d' % n, make(1, wrong), (1, wrong, empty))
-        t.same('sum 10, check %d' % n, check(1, wrong, empty), 1)
-        t.same('sum 10, lookup %d' % n, lookup(1, wrong, 1), (1, False, 0))
-        t.same('sum 10, insert %d' % n, insert(1, wrong, empty, 1),
-               (1, 0, wrong, empty))
-        t.same('sum 10, delete %d' % n, delete(1, wrong, empty, 1),
-               (1, 0, False, wrong, empty))
-        t.same('sum 10, scan %d' % n, scan(1, wrong, 0, [9]),
-               (1, 0, False, [9]))
-        t.same('sum 10, run %d' % n,
-               run(1, wrong, empty, record(1, 1), 100, [1, 2, 3, 4]),
-               (0, 0, 0, 1, 0, wrong, empty, [1, 2, 3, 4]))
+        for table in ([], [0] * (2 * n // 64 - 1)):
+            refused_make(t, 1, 1, [0] * n, table)
+            every_refusal(t, 1, 1, [0] * n, table, empty, 1)
 
-    some = list_with(5, 3)
+    some = tabled(list_with(5, 3))
     for a, more in ((0, True), (7, True), (8, False), (2 ** 64 - 1, False)):
-        t.same('sum 11, above %d' % a, scan(1, some, a, []), (0, 0, more, []))
+        t.same('sum 11, above %d' % a, scan(1, *some, a, []),
+               (0, 0, more, []))
 
     t.same('listrun sample',
            listrun_text(b''.join(record(1, k) for k in range(1, 66))),
@@ -727,6 +861,16 @@ def left_share_by_fractions(profile, h, l, weights, front):
     return min((i for i in range(m + 1) if lo <= i <= hi and lo <= m - i <= hi),
                key=lambda i: (abs(Fraction(front + sum(weights[:i]), C - i)
                                   - Fraction(sum(weights[i:]), C - m + i)), i))
+
+
+def window_counts(slots):
+    """The table again: slots that are not gaps, level by level."""
+    size, counted = SEGMENT, []
+    while size <= len(slots):
+        counted += [sum(key != 0 for key in slots[n:n + size])
+                    for n in range(0, len(slots), size)]
+        size *= 2
+    return counted
 
 
 def random_request(rng, h, keys, mood):
@@ -760,7 +904,7 @@ MOODS = ('empty out', 'thin', 'rising', 'falling', 'behind one', 'before one',
 
 def random_requests(t, rng, profile, h, n):
     """n of them, one profile and height, each held to a plain sorted set."""
-    _, slots, forecast = make(profile, [0] * (SEGMENT * 2 ** h))
+    slots, table, forecast = made_empty(profile, h)
     totals = [rng.randrange(2 ** 32) for _ in range(4)]
     plain = set()
     since = {}      # swept windows: (level, start) -> [net left, net right]
@@ -790,12 +934,13 @@ def random_requests(t, rng, profile, h, n):
                                                        forecast, key)
         t.same('number', number, wanted)
         t.same('lent things stay', (slots, forecast), lent)
+        counted = window_counts(after)
         if kind == 1:
-            t.same('insert', insert(profile, slots, forecast, key),
-                   (number, moves, after, fc))
+            t.same('insert', insert(profile, slots, table, forecast, key),
+                   (number, moves, after, counted, fc))
         else:
-            t.same('delete', delete(profile, slots, forecast, key),
-                   (number, moves, sparse, after, fc))
+            t.same('delete', delete(profile, slots, table, forecast, key),
+                   (number, moves, sparse, after, counted, fc))
         if number != 0:
             t.same('refused', (moves, sparse, window, after, fc),
                    (0, False, None) + lent)
@@ -803,16 +948,17 @@ def random_requests(t, rng, profile, h, n):
             (plain.add if kind == 1 else plain.remove)(key)
 
         # A run of the one record gives the same; one move less stops it.
-        got = run(profile, slots, forecast, record(kind, key), moves,
+        got = run(profile, slots, table, forecast, record(kind, key), moves,
                   totals)
         more = [1, int(number != 0), moves, int(window is not None)]
         sums = [(a + b) % 2 ** 32 for a, b in zip(totals, more)]
-        t.same('run', got, (1, more[1], moves, 0, 11, after, fc, sums))
+        t.same('run', got, (1, more[1], moves, 0, 11, after, counted, fc,
+                            sums))
         if moves > 0:
-            got = run(profile, slots, forecast, record(kind, key),
+            got = run(profile, slots, table, forecast, record(kind, key),
                       moves - 1, totals)
             t.same('run stopped', got,
-                   (0, 0, 0, 10, 0, slots, forecast, totals))
+                   (0, 0, 0, 10, 0, slots, table, forecast, totals))
         totals = sums
 
         # Which segment the request falls in.
@@ -865,19 +1011,21 @@ def random_requests(t, rng, profile, h, n):
                            profile, h, level,
                            [ws.get(k, 0) for k in inside], front))
 
-        slots, forecast = after, fc
+        if number != 0:
+            t.same('refused table', counted, table)
+        slots, table, forecast = after, counted, fc
         keys = sorted(plain)
         t.same('keys', live_keys(slots), keys)
-        t.same('check', check(profile, slots, forecast), 0)
+        t.same('check', check(profile, slots, table, forecast), 0)
         if kind == 2 and number == 0:
             t.same('sparse', sparse, len(plain) < few_keys(profile, h))
-        t.same('lookup', lookup(profile, slots, key)[:2],
+        t.same('lookup', lookup(profile, slots, table, key)[:2],
                (5, False) if key == 0 else (0, key in plain))
         room = rng.choice((0, 1, 5, 5000))
         a = rng.choice((0, key, rng.randrange(2 ** 64)))
         above = [k for k in keys if k > a]
         out = [77] * room
-        t.same('scan', scan(profile, slots, a, out),
+        t.same('scan', scan(profile, slots, table, a, out),
                (0, min(room, len(above)), len(above) > room,
                 above[:room] + [77] * (room - len(above))))
     print('profile %d, height %d: %d keys at the end'

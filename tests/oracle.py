@@ -33,33 +33,34 @@ def worked(lent, reply, **changed):
 
 
 def make(lent):
-    number, slots, forecast = model.make(lent.profile, lent.list)
-    return number, worked(lent, [], list=slots, forecast=words(forecast))
+    number, slots, table, forecast = model.make(lent.profile, lent.list, lent.table)
+    return number, worked(lent, [], list=slots, table=table, forecast=words(forecast))
 
 
 def check(lent):
-    return model.check(lent.profile, lent.list, cells(lent.forecast)), lent
+    return model.check(lent.profile, lent.list, lent.table, cells(lent.forecast)), lent
 
 
 def lookup(lent):
-    number, *reply = model.lookup(lent.profile, lent.list, lent.number)
+    number, *reply = model.lookup(lent.profile, lent.list, lent.table, lent.number)
     return number, worked(lent, reply)
 
 
 def change(lent):
-    number, *reply, slots, forecast = CHANGES[lent.call](lent.profile, lent.list, cells(lent.forecast), lent.number)
-    return number, worked(lent, reply, list=slots, forecast=words(forecast))
+    called = CHANGES[lent.call](lent.profile, lent.list, lent.table, cells(lent.forecast), lent.number)
+    number, *reply, slots, table, forecast = called
+    return number, worked(lent, reply, list=slots, table=table, forecast=words(forecast))
 
 
 def scan(lent):
-    number, *reply, output = model.scan(lent.profile, lent.list, lent.number, lent.output)
+    number, *reply, output = model.scan(lent.profile, lent.list, lent.table, lent.number, lent.output)
     return number, worked(lent, reply, output=output)
 
 
 def run(lent):
-    ran = model.run(lent.profile, lent.list, cells(lent.forecast), lent.requests, lent.number, lent.totals)
-    done, refused, moves, stop, place, slots, forecast, totals = ran
-    return stop, worked(lent, [done, refused, moves, place], list=slots, forecast=words(forecast), totals=totals)
+    ran = model.run(lent.profile, lent.list, lent.table, cells(lent.forecast), lent.requests, lent.number, lent.totals)
+    done, refused, moves, stop, place, slots, table, forecast, totals = ran
+    return stop, worked(lent, [done, refused, moves, place], list=slots, table=table, forecast=words(forecast), totals=totals)
 
 
 CHANGES = dict(insert=model.insert, delete=model.delete)

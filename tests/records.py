@@ -54,7 +54,7 @@ def streams(rng, h, n):
 
 def moves_of(hand, data):
     """The moves that these records take in all, by the model."""
-    return model.run(hand.profile, hand.list, oracle.cells(hand.forecast), data, TOP, hand.totals)[2]
+    return model.run(hand.profile, hand.list, hand.table, oracle.cells(hand.forecast), data, TOP, hand.totals)[2]
 
 
 def allowances(rng, h, n):

@@ -1,4 +1,4 @@
-"""Groups of calls that are refused: damaged lists, damaged forecasts, several faults at once, unknown profiles, and slices of wrong
+"""Groups of calls that are refused: damaged lists, tables and forecasts, several faults at once, unknown profiles, and slices of wrong
 sizes."""
 from dataclasses import replace
 
@@ -35,7 +35,7 @@ def some_number(hand, call):
 
 
 def every_call(hand, calls=EVERY, profiles=(None,)):
-    """Each of the calls once, on the same list and forecast while they are refused; by any of these profiles."""
+    """Each of the calls once, on the same list, table and forecast while they are refused; by any of these profiles."""
     for call in hand.rng.sample(calls, len(calls)):
         records = b"".join(packed(hand.rng.choice(("insert", "delete")), hand.near_key()) for _ in range(3))
         yield from hand.call(call, some_number(hand, call), requests=records, room=hand.rng.choice((0, 1, 5)),
@@ -58,6 +58,33 @@ def forecasts(rng, h, n):
     yield from every_call(hand, ("check", "insert", "delete", "run", "scan"))
 
 
+def tables(rng, h, n):
+    """A wrong table, by every call; then a fault in the order or the forecast too, which comes first; then a table to be filled."""
+    hand = Hand(rng, h, keyed)
+    damage.TABLES[(n + h) % len(damage.TABLES)](hand)
+    yield from every_call(hand)
+    more = damage.FORECASTS + damage.ORDER
+    more[(n + h) % len(more)](hand)
+    yield from every_call(hand, ("check", "insert", "run", "lookup"))
+    yield from hand.call("make", profile=hand.profile)
+    yield from every_call(hand, ("check", "insert", "scan"))
+
+
+def fills(rng, h, n):
+    """Makes with tables of any content, of the right length or not, on lists of the right length or not; then on from there."""
+    hand = Hand(rng, h, keyed)
+    hand.table = hand.junk(len(hand.table))
+    if n % 2:
+        damage.table_length(hand)
+    if n % 4 == 3:
+        damage.length(hand)
+    yield from hand.call("make")
+    yield from every_call(hand, ("check", "run", "lookup"))
+    hand.table = hand.junk(model.table_size(h))
+    yield from hand.call("make", profile=hand.profile)
+    yield from every_call(hand, ("insert", "check", "scan"))
+
+
 def order(rng, h, n):
     """Any faults together: the first in the order of testing is the one told."""
     hand = Hand(rng, h, keyed)
@@ -67,7 +94,9 @@ def order(rng, h, n):
     if crowd < 0.5:
         damage.too_many(hand)
     elif crowd < 0.75:
-        hand.list = Hand(rng, h, brimful, hand.profile).list
+        hand.lay(Hand(rng, h, brimful, hand.profile).list)
+    if rng.random() < 0.5:
+        rng.choice(damage.TABLES)(hand)
     if rng.random() < 0.5:
         rng.choice(damage.ORDER)(hand)
     if rng.random() < 0.15:
@@ -80,6 +109,7 @@ def unknown(rng, h, n):
     hand = Hand(rng, h, keyed)
     if n % 2:
         rng.choice(damage.FORECASTS)(hand)
+        rng.choice(damage.TABLES)(hand)
         rng.choice(damage.LISTS)(hand)
     yield from every_call(hand, EVERY, model.UNKNOWN)
     yield from every_call(hand, ("check", "lookup", "scan"), model.PROFILES)
@@ -109,7 +139,7 @@ def sizes(rng, h, n):
     """Wrong sizes come before all else, on good lists and on bad ones, by any profile; longer replies are taken."""
     hand = Hand(rng, h, keyed)
     if n % 2:
-        rng.choice(damage.LISTS + damage.FORECASTS)(hand)
+        rng.choice(damage.LISTS + damage.TABLES + damage.FORECASTS)(hand)
     for call in rng.sample(wire.CALLS, len(wire.CALLS)):
         lent = hand.lend(call, some_number(hand, call), requests=packed("insert", hand.a_key()), room=3,
                          profile=rng.choice((hand.profile, hand.profile, rng.choice(model.UNKNOWN))))
@@ -118,4 +148,4 @@ def sizes(rng, h, n):
         yield resized(hand, lent, "reply", oracle.LISTED[call] + rng.randint(1, 9))
 
 
-GROUPS = dict(lists=lists, forecasts=forecasts, order=order, unknown=unknown, sizes=sizes)
+GROUPS = dict(lists=lists, forecasts=forecasts, tables=tables, fills=fills, order=order, unknown=unknown, sizes=sizes)

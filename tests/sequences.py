@@ -170,7 +170,8 @@ def computed(rng, h, n):
     """The sums of profile 2, which are of height 1, then on from there."""
     hand = Hand(rng, 1, profile=2)
     sizes, (call, key), _ = model.SECOND[n % len(model.SECOND)]
-    hand.list, hand.forecast = model.list_with(*sizes, step=10), oracle.words(model.as_forecast([]))
+    hand.lay(model.list_with(*sizes, step=10))
+    hand.forecast = oracle.words(model.as_forecast([]))
     yield from hand.call(call.__name__, key, profile=2)
     yield from mixed(hand, rng.choice((rising, behind, storm, anywhere))(hand), 8)
 

@@ -2,6 +2,10 @@
 
     python3 tests/streams.py            writes crates/streams/data and crates/streams/stdout
     python3 tests/streams.py --check    compares them with what the model says
+
+Each stream is worked on a list of 256 slots with its table of 7 entries, made empty; those of ONE_LIST one after the other on one list.
+Then on that list with a table of 6 entries, all 0; and on 255 slots, all 0, with the table that the list had. A line tells the stream's name, the
+reply, the totals, what was added to them, the number of a check of what the run left, and the entries of the table.
 """
 import os
 import sys
@@ -35,33 +39,33 @@ FRESH = [(1, "empty", 1000), (1, "short", 1000), (1, "mark", 1000), (1, "kind", 
          (1, "moving", 54), (2, "moving", 1000)]
 ONE_LIST = [(1, "moving", 1000), (1, "again", 1000), (1, "empty", 0), (3, "empty", 0)]
 
-
 BEFORE = [2 ** 32 - 1, 0, 2 ** 32 - 6, 0]
 
 
-def four(numbers):
+def listed(numbers):
     return " ".join(map(str, numbers))
 
 
-def line(profile, name, slots, forecast, allowance):
-    ran = model.run(profile, slots, forecast, STREAMS[name], allowance, BEFORE)
-    worked, refused, moves, stop, place, slots, forecast, totals = ran
+def line(profile, name, slots, table, forecast, allowance):
+    ran = model.run(profile, slots, table, forecast, STREAMS[name], allowance, BEFORE)
+    worked, refused, moves, stop, place, *left, totals = ran
     added = [(after - before) % 2 ** 32 for after, before in zip(totals, BEFORE)]
-    told = "%s worked %d refused %d moves %d stop %d place %d totals %s added %s check %d\n" % (
-        name, worked, refused, moves, stop, place, four(totals), four(added), model.check(profile, slots, forecast))
-    return told, slots, forecast
+    told = "%s worked %d refused %d moves %d stop %d place %d totals %s added %s check %d table %s\n" % (
+        name, worked, refused, moves, stop, place, listed(totals), listed(added), model.check(profile, *left), listed(left[1]))
+    return told, left
 
 
 def output():
     out = ""
     for profile, name, allowance in FRESH:
-        _, slots, forecast = model.make(profile, [0] * 256)
-        out += line(profile, name, slots, forecast, allowance)[0]
-    _, slots, forecast = model.make(1, [0] * 256)
+        out += line(profile, name, *model.made_empty(profile, 2), allowance)[0]
+    left = model.made_empty(1, 2)
     for profile, name, allowance in ONE_LIST:
-        told, slots, forecast = line(profile, name, slots, forecast, allowance)
+        told, left = line(profile, name, *left, allowance)
         out += told
-    return out + line(1, "moving", [0] * 255, forecast, 1000)[0]
+    slots, table, forecast = left
+    out += line(1, "moving", slots, [0] * 6, forecast, 1000)[0]
+    return out + line(1, "moving", [0] * 255, table, forecast, 1000)[0]
 
 
 def files():

@@ -1,4 +1,5 @@
-"""Calls that are lent a forecast with one word far too great for its place: every place, by every call that reads a forecast.
+"""Calls that are lent a forecast with one word far too great for its place, or a table with one wrong count: every place, by every call
+that reads it.
 
 A word that is cut to fewer bits, or kept at their greatest number, may look right: so the numbers are those that a byte or a word of 32
 bits would take for the right one, and the ends of these.
@@ -6,13 +7,14 @@ bits would take for the right one, and the ends of these.
 from dataclasses import replace
 
 import damage
+import model
 import oracle
 from hand import Hand
-from refusals import keyed
+from refusals import EVERY, keyed
 from sequences import packed
 from starts import TOP, some_forecast
 
-READING = ("check", "insert", "delete", "run")
+READING = ("check", "insert", "delete", "run")      # a forecast
 STATES = 2          # all cells used that may be, or fewer
 
 
@@ -23,14 +25,15 @@ def values(right):
 
 
 def asked(hand, call):
-    """A call that would be done, but for the forecast."""
-    number = dict(check=0, insert=hand.a_key(), delete=hand.one_live(), run=TOP)[call]
+    """A call that would be done, but for the one word."""
+    number = dict(insert=hand.a_key(), delete=hand.one_live(), run=TOP, lookup=hand.one_live()).get(call, 0)
     records = packed("insert", hand.a_key()) + packed("delete", hand.one_live())
-    return hand.lend(call, number, requests=records, profile=hand.profile)
+    return hand.lend(call, number, requests=records, room=3, profile=hand.profile)
 
 
-def with_word(lent, place, value):
-    return replace(lent, forecast=lent.forecast[:place] + [value] + lent.forecast[place + 1:])
+def with_word(lent, place, value, name="forecast"):
+    words = getattr(lent, name)
+    return replace(lent, **{name: words[:place] + [value] + words[place + 1:]})
 
 
 def one_place(rng, h, n):
@@ -48,5 +51,25 @@ def one_place(rng, h, n):
     yield with_word(replace(lent, list=hand.list), place, rng.choice(others))
 
 
+def one_entry(rng, h, n):
+    """Every wrong count in one place, by half of the calls, and the place exchanged with the next by all; then with a bad forecast too, and
+    to a call that fills the table."""
+    hand = Hand(rng, h, keyed)
+    table = hand.table
+    place = n % len(table)
+    for value in damage.others(table[place]):
+        for call in rng.sample(EVERY, len(EVERY) // 2):
+            yield with_word(asked(hand, call), place, value, "table")
+    after = (place + 1) % len(table)
+    damage.entry(hand, place, table[after])
+    damage.entry(hand, after, table[place])
+    for call in EVERY:
+        yield asked(hand, call)
+    rng.choice(damage.FORECASTS)(hand)
+    yield asked(hand, rng.choice(READING))
+    yield asked(hand, "make")
+
+
 PLACES = STATES * oracle.FORECAST
-GROUPS = dict(wide=one_place)
+EPISODES = dict(wide=lambda h: PLACES, entries=model.table_size)
+GROUPS = dict(wide=one_place, entries=one_entry)

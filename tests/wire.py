@@ -10,8 +10,8 @@ HERE = os.path.dirname(os.path.abspath(__file__))
 
 CALLS = ("make", "check", "lookup", "insert", "delete", "scan", "run")
 ASKED = CALLS + ("over",)       # over: a run, by the function over lent totals
-SLICES = ("list", "forecast", "requests", "totals", "output", "reply")
-KIND = dict(list="Q", forecast="Q", requests="B", totals="I", output="Q", reply="Q")
+SLICES = ("list", "table", "forecast", "requests", "totals", "output", "reply")
+KIND = dict(list="Q", table="Q", forecast="Q", requests="B", totals="I", output="Q", reply="Q")
 GUARD = bytes(range(0xC0, 0xE0))
 
 
@@ -22,6 +22,7 @@ class Lent:
     profile: int = 1
     number: int = 0
     list: Sequence = ()
+    table: Sequence = ()
     forecast: Sequence = ()
     requests: bytes = b""
     totals: Sequence = ()
@@ -37,9 +38,13 @@ def contents(lent):
     return [array(KIND[name], getattr(lent, name)).tobytes() for name in SLICES]
 
 
+def lengths(lent):
+    return [len(slice) for slice in lent.slices()]
+
+
 def question(lent):
-    head = [ASKED.index(lent.call) + 1, lent.profile, lent.number] + [len(slice) for slice in lent.slices()]
-    return struct.pack("<9Q", *head) + b"".join(contents(lent))
+    head = [ASKED.index(lent.call) + 1, lent.profile, lent.number] + lengths(lent)
+    return struct.pack("<%dQ" % len(head), *head) + b"".join(contents(lent))
 
 
 def answer(returned, after):

@@ -34,6 +34,7 @@ use Rattle.rules.proofs.Requests.KeysKept.{settled-cells}
 use Rattle.rules.proofs.Requests.StaysGood.{Good, good-next}
 use Rattle.shares.specs.declared.Shape.{Shape}
 use Rattle.shares.specs.Rows.{sharesAt}
+use Rattle.seats.proofs.Indexes.{counts-held}
 use Rattle.aims.specs.declared.Aim.{Aim}
 use Rattle.records.specs.Asked.{asked}
 use Rattle.aims.specs.Aims.{seatFor, levelFor, levelAt}
@@ -102,7 +103,7 @@ level-number h zero p = omega arith
 level-number h (suc l) p = p
 
 -- OF AN ACCEPTED REQUEST
-module _ {slots : List ℕ} {F : Forecast} {bounds counts : List ℕ} {k : Shape} {r : Aim} (A : Acting slots F bounds counts k r) where
+module _ {slots : List ℕ} {F : Forecast} {bounds table : List ℕ} {k : Shape} {r : Aim} (A : Acting slots F bounds table k r) where
   abbrev ss : Segments
   ss = segmentsOf slots
 
@@ -136,13 +137,15 @@ module _ {slots : List ℕ} {F : Forecast} {bounds counts : List ℕ} {k : Shape
   pub segment-in : r .segment < length (segmentsOf slots)
   segment-in = place-in (A .stands) located
 
-  pub numbers : (r .segment < length counts) × (64 * r .segment + 64 ≤ length slots) × (r .at ≤ r .held) × (r .held ≤ 64)
+  pub numbers : (64 * r .segment + 64 ≤ length slots) × (r .at ≤ r .held) × (r .held ≤ 64)
   numbers = (
-    omega (arith, segment-in, A .index .long),
     omega (arith, segment-in, long-stands (A .stands), segments-stand (A .stands)),
     omega (arith, A .accepts .at, A .accepts .held, only-length (λ j. ltb j (r .key)) (getD ss (r .segment) [])),
     omega (arith, A .accepts .held, shows-stands (A .stands) .fits (getD ss (r .segment) []) (at-mem ss (r .segment) [] segment-in)),
   )
+
+  pub counted : getD table (r .segment) 0 ≡ r .held
+  counted = counts-held (A .index) (r .segment) segment-in ∙ sym (A .accepts .held)
 
   pub level-height : r .level ≤ k .height
   level-height = level-number (S .height) (r .level) (subst (AtMost (S .height)) (A .accepts .level) (level-most S (r .key) R (r .grows)))

@@ -3,7 +3,7 @@ use mathlib.Core.Path.{_≡_, sym, ap, _∙_, subst}
 use mathlib.Core.Bool.{Bool, true, false}
 use mathlib.Core.Logic.{inl, inr}
 use mathlib.Core.List.{List, [], List·Memᴰ as Mem, Memᴰ·map as mem-map}
-use Prim.Native.Nat.{ℕ, _+_, _-_, _*_, _/_, _^_, _≤_, _<_}
+use Prim.Native.Nat.{ℕ, _+_, _*_, _/_, _^_, _≤_, _<_}
 use native.Mathlib.Omega.{arith}
 use lib.ListN.{length, getD}
 use Rattle.lists.specs.Lists.{splice}
@@ -29,28 +29,22 @@ use Rattle.rules.proofs.Sweeping.SweptWindow.{splice-set}
 use Rattle.shares.specs.declared.Shape.{Shape}
 use Rattle.shares.specs.Rows.{sharesAt}
 use Rattle.seats.specs.Bounds.{Bounded}
-use Rattle.slots.proofs.Tables.{splice-before, splice-after}
+use Rattle.slots.proofs.Tables.{splice-beside}
+use Rattle.seats.proofs.Indexes.{some-segments, few-segments}
 use Rattle.aims.specs.declared.Aim.{Aim}
 use Rattle.aims.specs.Aims.{seatFor}
 use Rattle.aims.proofs.Standing.{good-stands, shows-stands, segments-stand}
 use Rattle.sweeps.specs.Acts.{cellsFor, doneIn, outcomeOf, Acting, Noted, Left}
 use Rattle.acts.proofs.Acted.{markers-noted, placed-noted, segment-in, level-height, cells-after, segments-swept, cells-stay, good-after}
 
--- outside of what is replaced all is as it was
-outside-splice : (i n : ℕ) (new ss : Segments) (j : ℕ) → length new ≡ n → i + n ≤ length ss → Outside i n j → getD (splice i n new ss) j [] ≡ getD ss j []
-outside-splice i n new ss j e h (inl p) = splice-before i n new ss [] e h j p
-outside-splice i n new ss j e h (inr p) =
-    let b : i + n + (j - (i + n)) ≡ j = omega arith in
-    subst (λ (m : ℕ). getD (splice i n new ss) m [] ≡ getD ss m []) b (splice-after i n new ss [] e h (j - (i + n)))
-
--- so a marker outside of it keeps its segment
+-- outside of what is replaced all is as it was, so a marker there keeps its segment
 still : (i n : ℕ) (new ss : Segments) → length new ≡ n → i + n ≤ length ss → Listed ss → Listed (splice i n new ss)
     → (x : ℕ) → Marker ss x → Outside i n (segmentOf ss x) → segmentOf ss x ≡ segmentOf (splice i n new ss) x
 still i n new ss e h g g′ x (inl z) o = ap (segmentOf ss) z ∙ segment-front ss ∙ sym (ap (segmentOf (splice i n new ss)) z ∙ segment-front (splice i n new ss))
 still i n new ss e h g g′ x (inr m) o =
     let p = segment-mem ss x (g .live x m) m in
     segment-own (splice i n new ss) g′ (segmentOf ss x) x (omega (arith, p .0, length-splice i n new ss e h))
-    (subst (Mem x) (sym (outside-splice i n new ss (segmentOf ss x) e h o)) (p .1))
+    (subst (Mem x) (sym (splice-beside i n new ss [] e h (segmentOf ss x) o)) (p .1))
 
 -- the segment of the request is in the window: the sweep is one of the segments before it
 before-sweep : (g : Bool) (y : ℕ) (ss : Segments) (i n : ℕ) (new : Segments) → i ≤ seatFor g y ss → seatFor g y ss < i + n → splice i n new (doneIn g y ss) ≡ splice i n new ss
@@ -58,17 +52,17 @@ before-sweep true y ss i n new p q = splice-set i n new ss _ _ p q
 before-sweep false y ss i n new p q = splice-set i n new ss _ _ p q
 
 -- the window is one of the list
-window-in : {slots : List ℕ} {F : Forecast} {bounds counts : List ℕ} {k : Shape} {r : Aim} → Acting slots F bounds counts k r
+window-in : {slots : List ℕ} {F : Forecast} {bounds table : List ℕ} {k : Shape} {r : Aim} → Acting slots F bounds table k r
     → start (r .level) (r .segment) + 2 ^ r .level ≤ length (segmentsOf slots)
 window-in {k = k} {r = r} A =
     omega (arith, segments-stand (A .stands), start-fits (r .level) (k .height) (r .segment) (level-height A) (omega (arith, segments-stand (A .stands), segment-in A)))
 
-pub window-fits : {slots : List ℕ} {F : Forecast} {bounds counts : List ℕ} {k : Shape} {r : Aim} → Acting slots F bounds counts k r
+pub window-fits : {slots : List ℕ} {F : Forecast} {bounds table : List ℕ} {k : Shape} {r : Aim} → Acting slots F bounds table k r
     → (n : ℕ) → n ≡ 2 ^ r .level → r .segment / n * n + n ≤ 64
 window-fits {r = r} A n e =
-    subst (λ (m : ℕ). r .segment / m * m + m ≤ 64) (sym e) (omega (arith, A .index .few, window-in A))
+    subst (λ (m : ℕ). r .segment / m * m + m ≤ 64) (sym e) (omega (arith, few-segments (A .index), window-in A))
 
-module _ {slots : List ℕ} {F : Forecast} {bounds counts : List ℕ} {k : Shape} {r : Aim} (A : Acting slots F bounds counts k r) {N : Forecast} (noted : Noted slots F k r N) where
+module _ {slots : List ℕ} {F : Forecast} {bounds table : List ℕ} {k : Shape} {r : Aim} (A : Acting slots F bounds table k r) {N : Forecast} (noted : Noted slots F k r N) where
   abbrev ss : Segments
   ss = segmentsOf slots
 
@@ -117,12 +111,12 @@ module _ {slots : List ℕ} {F : Forecast} {bounds counts : List ℕ} {k : Shape
       (markers-noted S (r .key) R (good-stands (A .stands)) (r .grows) c i′) (subst (Outside (start (r .level) (r .segment)) (2 ^ r .level)) e o)
       ∙ ap (λ (ts : Segments). segmentOf ts (c .marker)) (sym (swept-is h))
 
-  pub forecast-swept : 1 ≤ r .level → {slots′ bounds′ counts′ : List ℕ} → Left (outcomeOf slots F k r) slots′ bounds′ counts′ → (n : ℕ) → n ≡ 2 ^ r .level → {N′ : Forecast}
+  pub forecast-swept : 1 ≤ r .level → {slots′ bounds′ table′ : List ℕ} → Left (outcomeOf slots F k r) slots′ bounds′ table′ → (n : ℕ) → n ≡ 2 ^ r .level → {N′ : Forecast}
       → ((ts : Segments) → Listed ts → 0 < length ts → length ts ≤ 64 → Bounded 1 ts bounds′ → Live ts N → Elsewhere ts (r .segment / n * n) n N
       → Became (retargeted (segmentOf ts) (usedCells N)) N′)
       → N′ ≡ forecastOf (outcomeOf slots F k r .room .cells)
   forecast-swept h L n e {N′ = N′} aim =
       became-is (retargeted (segmentOf after) (usedCells N)) N′
-      (aim after (L .index .shows .listed) (L .index .some) (L .index .few) (L .index .bound) live-after
+      (aim after (L .index .shows .listed) (some-segments (L .index)) (few-segments (L .index)) (L .index .bound) live-after
       (subst (λ (m : ℕ). Elsewhere after (r .segment / m * m) m N) (sym e) (elsewhere h)))
       ∙ ap forecastOf (ap (retargeted (segmentOf after)) (noted .is) ∙ sym (cells-after A))

@@ -28,6 +28,7 @@ use Rattle.rules.proofs.Requests.Accepted.{Inserts, insert-accepted, Deletes, d
 use Rattle.shares.specs.declared.Shape.{Shape}
 use Rattle.shares.specs.Rows.{sharesAt}
 use Rattle.seats.specs.Bounds.{Indexed}
+use Rattle.seats.proofs.Indexes.{few-segments}
 use Rattle.aims.specs.declared.Aim.{Aim}
 use Rattle.records.specs.Asked.{asked}
 use Rattle.aims.specs.Aims.{seatFor, levelFor, levelAt}
@@ -36,7 +37,7 @@ use Rattle.aims.proofs.Places.{place-rising}
 use Rattle.sweeps.specs.Acts.{cellsFor, doneIn, outcomeOf, Acting, Noted, Left}
 use Rattle.acts.proofs.Acted.{taken, located, segment-in, segments-stay}
 
-module _ {slots : List ℕ} {F : Forecast} {bounds counts : List ℕ} {k : Shape} {r : Aim} (A : Acting slots F bounds counts k r) where
+module _ {slots : List ℕ} {F : Forecast} {bounds table : List ℕ} {k : Shape} {r : Aim} (A : Acting slots F bounds table k r) where
   abbrev ss : Segments
   ss = segmentsOf slots
 
@@ -55,7 +56,7 @@ module _ {slots : List ℕ} {F : Forecast} {bounds counts : List ℕ} {k : Shape
     tidy-stands (A .stands) room,
     omega (arith, A .stands .shape .cells),
     omega (arith, A .stands .shape .cells, height-stands (A .stands)),
-    omega (arith, segment-in A, A .index .few),
+    omega (arith, segment-in A, few-segments (A .index)),
   )
 
   -- as either kind
@@ -104,27 +105,27 @@ module _ {slots : List ℕ} {F : Forecast} {bounds counts : List ℕ} {k : Shape
       let there : Mem y (getD ss (r .segment) []) = rw (seat-as false g) (segment-mem ss y (shows-stands (A .stands) .listed .live y m) m .1) in
       omega (arith, A .accepts .held, A .accepts .at, place-old y (getD ss (r .segment) []) (place-rising (A .stands) (located A)) there)
 
-  left-by : r .level ≡ 0 → {slots′ bounds′ counts′ : List ℕ} → Indexed (doneIn (r .grows) (r .key) (segmentsOf slots)) slots′ bounds′ counts′ → Left (outcomeOf slots F k r) slots′ bounds′ counts′
-  left-by e {slots′} {bounds′} {counts′} i =
-      let j : Indexed (outcomeOf slots F k r .room .segments) slots′ bounds′ counts′ = subst (λ (ts : Segments). Indexed ts slots′ bounds′ counts′) (sym (segments-stay A e)) i in
+  left-by : r .level ≡ 0 → {slots′ bounds′ table′ : List ℕ} → Indexed (doneIn (r .grows) (r .key) (segmentsOf slots)) slots′ bounds′ table′ → Left (outcomeOf slots F k r) slots′ bounds′ table′
+  left-by e {slots′} {bounds′} {table′} i =
+      let j : Indexed (outcomeOf slots F k r .room .segments) slots′ bounds′ table′ = subst (λ (ts : Segments). Indexed ts slots′ bounds′ table′) (sym (segments-stay A e)) i in
       record { slots-left = j .shows .whole; index = j }
 
-  pub shifted-in : r .grows ≡ true → r .level ≡ 0 → {slots′ counts′ : List ℕ}
-      → ((ts : Segments) (bs : List ℕ) → Indexed ts slots bs counts → Located (r .key) ts (record { segment = r .segment; held = r .held; at = r .at; present = not (r .grows) })
-      → T (not (member (r .key) (keys ts))) → 0 < r .key → Indexed (set ts (seat (r .key) ts) (put (r .key) (getD ts (seat (r .key) ts) []))) slots′ bs counts′)
-      → Left (outcomeOf slots F k r) slots′ bounds counts′
-  shifted-in g e {slots′} {counts′} did =
+  pub shifted-in : r .grows ≡ true → r .level ≡ 0 → {slots′ table′ : List ℕ}
+      → ((ts : Segments) (bs : List ℕ) → Indexed ts slots bs table → Located (r .key) ts (record { segment = r .segment; held = r .held; at = r .at; present = not (r .grows) })
+      → T (not (member (r .key) (keys ts))) → 0 < r .key → Indexed (set ts (seat (r .key) ts) (put (r .key) (getD ts (seat (r .key) ts) []))) slots′ bs table′)
+      → Left (outcomeOf slots F k r) slots′ bounds table′
+  shifted-in g e {slots′} {table′} did =
       left-by e
-      (subst (λ (t : Bool). Indexed (doneIn t y ss) slots′ bounds counts′) (sym g)
-      (subst (λ (s : ℕ). Indexed (set ss s (put y (getD ss s []))) slots′ bounds counts′) (seat-free y ss (inserts g .fresh))
+      (subst (λ (t : Bool). Indexed (doneIn t y ss) slots′ bounds table′) (sym g)
+      (subst (λ (s : ℕ). Indexed (set ss s (put y (getD ss s []))) slots′ bounds table′) (seat-free y ss (inserts g .fresh))
       (did ss bounds (A .index) (located A) (inserts g .fresh) (inserts g .key))))
 
-  pub shifted-out : r .grows ≡ false → r .level ≡ 0 → {slots′ bounds′ counts′ : List ℕ}
-      → ((ts : Segments) → Indexed ts slots bounds counts → Located (r .key) ts (record { segment = r .segment; held = r .held; at = r .at; present = not (r .grows) })
-      → T (member (r .key) (keys ts)) → Indexed (set ts (seat (r .key) ts) (cut (r .key) (getD ts (seat (r .key) ts) []))) slots′ bounds′ counts′)
-      → Left (outcomeOf slots F k r) slots′ bounds′ counts′
-  shifted-out g e {slots′} {bounds′} {counts′} did =
+  pub shifted-out : r .grows ≡ false → r .level ≡ 0 → {slots′ bounds′ table′ : List ℕ}
+      → ((ts : Segments) → Indexed ts slots bounds table → Located (r .key) ts (record { segment = r .segment; held = r .held; at = r .at; present = not (r .grows) })
+      → T (member (r .key) (keys ts)) → Indexed (set ts (seat (r .key) ts) (cut (r .key) (getD ts (seat (r .key) ts) []))) slots′ bounds′ table′)
+      → Left (outcomeOf slots F k r) slots′ bounds′ table′
+  shifted-out g e {slots′} {bounds′} {table′} did =
       left-by e
-      (subst (λ (t : Bool). Indexed (doneIn t y ss) slots′ bounds′ counts′) (sym g)
-      (subst (λ (s : ℕ). Indexed (set ss s (cut y (getD ss s []))) slots′ bounds′ counts′) (seat-live y ss (deletes g .present))
+      (subst (λ (t : Bool). Indexed (doneIn t y ss) slots′ bounds′ table′) (sym g)
+      (subst (λ (s : ℕ). Indexed (set ss s (cut y (getD ss s []))) slots′ bounds′ table′) (seat-live y ss (deletes g .present))
       (did ss (A .index) (located A) (deletes g .present))))

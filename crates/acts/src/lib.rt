@@ -12,8 +12,8 @@ use slots::Place;
 
 // The forecast with the request noted.
 pub fn note(forecast: Forecast, shape: Shape, aim: Aim) -> Forecast
-    requires { ⌜ ((slots : List ℕ) × (bounds : List ℕ) × (counts : List ℕ) × Acting slots forecast bounds counts shape aim) ⌝ }
-    ensures { λ r. ⌜ ((slots bounds counts : List ℕ) → Acting slots forecast bounds counts shape aim → Noted slots forecast shape aim r) ⌝ }
+    requires { ⌜ ((slots : List ℕ) × (bounds : List ℕ) × (table : List ℕ) × Acting slots forecast bounds table shape aim) ⌝ }
+    ensures { λ r. ⌜ ((slots bounds table : List ℕ) → Acting slots forecast bounds table shape aim → Noted slots forecast shape aim r) ⌝ }
 {
     if aim.grows {
         return forecast.note_insert(shape.cells, aim.before, aim.segment);
@@ -22,10 +22,10 @@ pub fn note(forecast: Forecast, shape: Shape, aim: Aim) -> Forecast
 }
 
 // A key put in or taken out within its segment.
-fn shift(list: &mut [u64], counts: &mut [usize], bounds: &mut [u64], aim: Aim)
-    requires { ⌜ ((F : Forecast) × (shape : Shape) × Acting (now list) F (now bounds) (now counts) shape aim) ⌝ }
+fn shift(list: &mut [u64], table: &mut [usize], bounds: &mut [u64], aim: Aim)
+    requires { ⌜ ((F : Forecast) × (shape : Shape) × Acting (now list) F (now bounds) (now table) shape aim) ⌝ }
     requires { ⌜ aim .level ≡ 0 ⌝ }
-    ensures { λ _. ⌜ ((F : Forecast) (shape : Shape) → Acting (now (list .entry)) F (now (bounds .entry)) (now (counts .entry)) shape aim → Left (outcomeOf (now (list .entry)) F shape aim) (now (list .exit)) (now (bounds .exit)) (now (counts .exit))) ⌝ }
+    ensures { λ _. ⌜ ((F : Forecast) (shape : Shape) → Acting (now (list .entry)) F (now (bounds .entry)) (now (table .entry)) shape aim → Left (outcomeOf (now (list .entry)) F shape aim) (now (list .exit)) (now (bounds .exit)) (now (table .exit))) ⌝ }
 {
     let place = Place {
         segment: aim.segment,
@@ -34,39 +34,39 @@ fn shift(list: &mut [u64], counts: &mut [usize], bounds: &mut [u64], aim: Aim)
         present: !aim.grows,
     };
     if aim.grows {
-        shifts::put_in(list, counts, place, aim.key);
+        shifts::put_in(list, table, place, aim.key);
         return;
     }
-    shifts::cut_out(list, bounds, counts, place, aim.key);
+    shifts::cut_out(list, table, bounds, place, aim.key);
 }
 
 // The list as an accepted request leaves it: the key put in or taken out within its segment, or its window planned and then swept. `noted`
 // is the forecast with the request noted.
 pub fn act(
     list: &mut [u64],
-    counts: &mut [usize],
+    table: &mut [usize],
     bounds: &mut [u64],
     plan: &mut [usize],
     noted: Forecast,
     shape: Shape,
     aim: Aim,
 )
-    requires { ⌜ ((F : Forecast) × Acting (now list) F (now bounds) (now counts) shape aim × Noted (now list) F shape aim noted) × (length (now plan) ≡ 64) ⌝ }
+    requires { ⌜ ((F : Forecast) × Acting (now list) F (now bounds) (now table) shape aim × Noted (now list) F shape aim noted) × (length (now plan) ≡ 64) ⌝ }
     ensures range { λ _. ⌜ length (now (plan .exit)) ≡ length (now (plan .entry)) ⌝ }
-    ensures left { λ _. ⌜ ((F : Forecast) → Acting (now (list .entry)) F (now (bounds .entry)) (now (counts .entry)) shape aim → Noted (now (list .entry)) F shape aim noted → Left (outcomeOf (now (list .entry)) F shape aim) (now (list .exit)) (now (bounds .exit)) (now (counts .exit))) ⌝ }
+    ensures left { λ _. ⌜ ((F : Forecast) → Acting (now (list .entry)) F (now (bounds .entry)) (now (table .entry)) shape aim → Noted (now (list .entry)) F shape aim noted → Left (outcomeOf (now (list .entry)) F shape aim) (now (list .exit)) (now (bounds .exit)) (now (table .exit))) ⌝ }
 {
     if aim.level == 0 {
-        shift(list, counts, bounds, aim);
+        shift(list, table, bounds, aim);
         return;
     }
-    sweeps::plan_sweep(list, counts, plan, noted, shape, aim);
-    sweeps::sweep(list, counts, bounds, plan, aim);
+    sweeps::plan_sweep(list, table, plan, noted, shape, aim);
+    sweeps::sweep(list, table, bounds, plan, aim);
 }
 
 // After a sweep, each cell of the swept window names its marker's segment.
 pub fn retarget(noted: Forecast, bounds: &[u64], aim: Aim) -> Forecast
-    requires { ⌜ ((slots : List ℕ) × (F : Forecast) × (was : List ℕ) × (counts : List ℕ) × (shape : Shape) × Acting slots F was counts shape aim × Noted slots F shape aim noted) × (length (now bounds) ≡ 64) ⌝ }
-    ensures { λ r. ⌜ ((slots : List ℕ) (F : Forecast) (was counts : List ℕ) (shape : Shape) → Acting slots F was counts shape aim → Noted slots F shape aim noted → 1 ≤ aim .level → (left full : List ℕ) → Left (outcomeOf slots F shape aim) left (now (bounds .entry)) full → r ≡ forecastOf (outcomeOf slots F shape aim .room .cells)) ⌝ }
+    requires { ⌜ ((slots : List ℕ) × (F : Forecast) × (was : List ℕ) × (table : List ℕ) × (shape : Shape) × Acting slots F was table shape aim × Noted slots F shape aim noted) × (length (now bounds) ≡ 64) ⌝ }
+    ensures { λ r. ⌜ ((slots : List ℕ) (F : Forecast) (was table : List ℕ) (shape : Shape) → Acting slots F was table shape aim → Noted slots F shape aim noted → 1 ≤ aim .level → (left full : List ℕ) → Left (outcomeOf slots F shape aim) left (now (bounds .entry)) full → r ≡ forecastOf (outcomeOf slots F shape aim .room .cells)) ⌝ }
 {
     let n = shares::power(aim.level);
     let segment = aim.segment;

@@ -11,7 +11,7 @@ use lib.ListN.{length, getD, set}
 use borrow.Author.Tests.{lt-ltb}
 use Rattle.slots.specs.Segments.{Segments, keys, segmentsOf}
 use Rattle.slots.specs.Keys.{member, above, put}
-use Rattle.slots.specs.Shown.{CountsOf}
+use Rattle.levels.specs.Tables.{tableOf}
 use Rattle.slots.proofs.Rising.{length-put}
 use Rattle.slots.proofs.Keys.{not-member, in-part}
 use Rattle.slots.proofs.Seats.{seat-free, seat-member}
@@ -36,7 +36,7 @@ use Rattle.aims.specs.declared.Climb.{Climb}
 use Rattle.aims.specs.declared.Aim.{Aim}
 use Rattle.aims.specs.Climbs.{Climbed}
 use Rattle.aims.specs.Aims.{Stands, refusedAim, Aimed}
-use Rattle.aims.proofs.Standing.{lawful-stands, good-stands, shows-stands, segments-stand, keys-stand}
+use Rattle.aims.proofs.Standing.{lawful-stands, good-stands, shows-stands, segments-stand, keys-stand, right-stands}
 use Rattle.aims.proofs.Places.{some-segments, place-in, place-held, place-at, place-rising}
 use Rattle.aims.proofs.Answers.{level-some, aimed-refused, aimed-accepted, keyAim}
 
@@ -101,15 +101,15 @@ module _ {slots : List ℕ} {F : Forecast} {k : Shape} {n : ℕ} (s : Stands slo
             at-home (λ _. found .before fresh) (rw (lt-ltb _ _ h) refl)
 
         -- A FULL ONE: the keys of the window that a climb finds
-        module _ (full : k .high ≤ p .place .held) {bounds counts : List ℕ} (index : Indexed ss slots bounds counts) {r : Climb}
-            (climbed : (ts : Segments) (new : List ℕ) → length ts ≡ 2 ^ k .height → CountsOf ts counts → length new ≡ p .place .held + 1
+        module _ (full : k .high ≤ p .place .held) {bounds table : List ℕ} (index : Indexed ss slots bounds table) {r : Climb}
+            (climbed : (ts : Segments) (new : List ℕ) → length ts ≡ 2 ^ k .height → table ≡ tableOf (k .height) ts → length new + 0 ≡ length (getD ts (p .place .segment) []) + 1
             → Climbed (sharesAt k) (p .place .segment) (set ts (p .place .segment) new) r) where
           known : Climbed (sharesAt k) (home y ss) (putIn y ss) r
           known =
-              subst (λ (j : ℕ). (new : List ℕ) → length new ≡ p .place .held + 1 → Climbed (sharesAt k) j (set ss j new) r) at-home
-              (λ new e. climbed ss new (segments-stand s) (index .count) e)
+              subst (λ (j : ℕ). (new : List ℕ) → length new + 0 ≡ length (getD ss j []) + 1 → Climbed (sharesAt k) j (set ss j new) r) at-home
+              (λ new e. climbed ss new (segments-stand s) (right-stands s index) e)
               (put y (getD ss (home y ss) []))
-              (omega (arith, there, length-put y (getD ss (home y ss) []) (λ j m. not-member y (keys ss) fresh j (in-part ss (home y ss) (omega (arith, at-home, place-in s (found .place))) j m))))
+              (omega (arith, length-put y (getD ss (home y ss) []) (λ j m. not-member y (keys ss) fresh j (in-part ss (home y ss) (omega (arith, at-home, place-in s (found .place))) j m))))
 
           at-high : S .high 0 ≤ length (getD ss (home y ss) [])
           at-high = omega (arith, there, s .shape .high)

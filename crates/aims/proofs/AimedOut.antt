@@ -4,14 +4,14 @@ use mathlib.Core.Bool.{true, false, true≢false}
 use mathlib.Core.Logic.{_≢_}
 use mathlib.Core.Option.{Option, none, some, Option·getD}
 use mathlib.Core.List.{List, [], List·Memᴰ as Mem}
-use Prim.Native.Nat.{ℕ, _-_, _^_, _≤_, _<_}
+use Prim.Native.Nat.{ℕ, _+_, _-_, _^_, _≤_, _<_}
 use native.Mathlib.Omega.{arith}
 use lib.Dec.{T}
 use lib.ListN.{length, getD, set}
 use borrow.Author.Tests.{lt-ltb, le-ltb}
 use Rattle.slots.specs.Segments.{Segments, keys, segmentsOf}
 use Rattle.slots.specs.Keys.{member, above, cut, predecessor, segmentOf}
-use Rattle.slots.specs.Shown.{CountsOf}
+use Rattle.levels.specs.Tables.{tableOf}
 use Rattle.slots.proofs.Keys.{member→mem, segment-mem}
 use Rattle.slots.proofs.Seats.{seat-live}
 use Rattle.slots.proofs.ByPlace.{above-old, place-old}
@@ -34,7 +34,7 @@ use Rattle.aims.specs.declared.Climb.{Climb}
 use Rattle.aims.specs.declared.Aim.{Aim}
 use Rattle.aims.specs.Climbs.{Climbed}
 use Rattle.aims.specs.Aims.{Stands, refusedAim, levelAt, Aimed}
-use Rattle.aims.proofs.Standing.{shows-stands, segments-stand}
+use Rattle.aims.proofs.Standing.{shows-stands, segments-stand, right-stands}
 use Rattle.aims.proofs.Places.{place-held, place-at, place-rising}
 use Rattle.aims.proofs.Answers.{level-some, aimed-refused, aimed-accepted, keyAim}
 
@@ -122,17 +122,17 @@ module _ {slots : List ℕ} {F : Forecast} {k : Shape} {n : ℕ} (s : Stands slo
       out-keeps h = rw (le-ltb (length (cut y (getD ss (segmentOf ss y) []))) (S .low 0) (omega (arith, shorter, s .shape .low))) refl
 
       -- WHAT A CLIMB FINDS, where it does not
-      module _ (few : p .place .held ≤ k .low) {bounds counts : List ℕ} (index : Indexed ss slots bounds counts) {r : Climb}
-          (climbed : (ts : Segments) (new : List ℕ) → length ts ≡ 2 ^ k .height → CountsOf ts counts → length new ≡ p .place .held - 1
+      module _ (few : p .place .held ≤ k .low) {bounds table : List ℕ} (index : Indexed ss slots bounds table) {r : Climb}
+          (climbed : (ts : Segments) (new : List ℕ) → length ts ≡ 2 ^ k .height → table ≡ tableOf (k .height) ts → length new + 1 ≡ length (getD ts (p .place .segment) []) + 0
           → Climbed (sharesAt k) (p .place .segment) (set ts (p .place .segment) new) r) where
         under : length (cut y (getD ss (segmentOf ss y) [])) < S .low 0
         under = omega (arith, shorter, out-under, s .shape .low)
 
         known : Climbed (sharesAt k) (segmentOf ss y) (cutFrom y ss) r
         known =
-            subst (λ (j : ℕ). (new : List ℕ) → length new ≡ p .place .held - 1 → Climbed (sharesAt k) j (set ss j new) r) at-seat
-            (λ new e. climbed ss new (segments-stand s) (index .count) e)
-            (cut y (getD ss (segmentOf ss y) [])) shorter
+            subst (λ (j : ℕ). (new : List ℕ) → length new + 1 ≡ length (getD ss j []) + 0 → Climbed (sharesAt k) j (set ss j new) r) at-seat
+            (λ new e. climbed ss new (segments-stand s) (right-stands s index) e)
+            (cut y (getD ss (segmentOf ss y) [])) (omega (arith, length-cut-in y ss (shows-stands s .listed) mem))
 
         -- no window
         pub out-unswept : r .level ≡ 0 → deleteLevel S y ss ≡ none

@@ -1,46 +1,56 @@
--- The climb by counts, level by level: limits, the window that grows by its other half, and how it ends.
-use mathlib.Core.Path.{_≡_, refl, sym, ap, ap₂, _∙_}
+-- The climb by the table, level by level: limits, the entry that is read, and how it ends.
+use mathlib.Core.Path.{_≡_, refl, sym, ap, _∙_}
 use mathlib.Core.Bool.{true, false, not}
 use mathlib.Core.Option.{Option, Option·getD}
-use mathlib.Core.List.{List}
+use mathlib.Core.List.{List, []}
 use Prim.Native.Nat.{ℕ, _+_, _-_, _*_, _^_, _≤_, _<_}
-use native.Mathlib.Numerals.{add-one}
 use native.Mathlib.Decide.{decLt}
 use native.Mathlib.Omega.{arith}
 use lib.Dec.{T, leb}
 use borrow.Author.Tests.{lt-leb, le-leb}
-use lib.ListN.{length, take, drop, set}
-use Rattle.lists.specs.Lists.{total}
+use lib.ListN.{length, getD, set}
 use Rattle.lists.proofs.Search.{first-is, first-none}
-use Rattle.slots.specs.Segments.{Segments, keys}
+use Rattle.slots.specs.Segments.{Segments}
 use Rattle.slots.specs.Windows.{count}
-use Rattle.slots.specs.Shown.{CountsOf}
-use Rattle.slots.proofs.Tallies.{sum-within}
+use Rattle.slots.proofs.Counts.{count-set-in}
+use Rattle.levels.specs.Tables.{tableOf}
+use Rattle.levels.specs.Levels.{entryOf}
+use Rattle.levels.proofs.Walks.{entry-in}
+use Rattle.levels.proofs.Tables.{length-table, table-is, table-most}
 use Rattle.rules.specs.Shares.{Shares, within}
 use Rattle.rules.specs.Placing.{chosen}
-use Rattle.aims.specs.Climbs.{otherHalf, Climbed}
-use Rattle.aims.proofs.Halves.{count-halves, other-kept}
+use Rattle.aims.specs.Climbs.{Tabled, Climbed}
 
--- LIMITS by the numbers of the table
+-- LIMITS by the numbers of the shape
 pub within-low : (S : Shares) (l size low n : ℕ) → size ≡ 2 ^ l → low ≡ S .low l → n < size * low → false ≡ within S l n
 within-low S l size low n e f k = rw (← e, ← f, lt-leb (size * low) n k) refl
 
 pub within-high : (S : Shares) (l size low high n : ℕ) → size ≡ 2 ^ l → low ≡ S .low l → high ≡ S .high l → size * low ≤ n → leb n (size * high) ≡ within S l n
 within-high S l size low high n e f g k = rw (← e, ← f, ← g, le-leb (size * low) n k) refl
 
--- ONE LEVEL MORE: a window of `half` segments, the other half of which begins at o and has r keys by the counts
-pub keys-next : (l s half o : ℕ) (ss : Segments) (new ns : List ℕ) (n r : ℕ) → half ≡ 2 ^ l → o ≡ otherHalf half s → CountsOf ss ns
-    → o + half ≤ length ss → o + half ≤ length ns → r ≡ total (take (o + half - o) (drop o ns)) → n ≡ count l s (set ss s new) → n + r ≡ count (l + 1) s (set ss s new)
-keys-next l s half o ss new ns n r e f c enough room sum so-far =
-    rw add-one
-    (sym (count-halves l s (set ss s new)
-    ∙ ap₂ _+_ (sym so-far) (ap (λ (xs : Segments). length (keys xs)) (other-kept l s ss new) ∙ sym (sum ∙ ap (λ (k : ℕ). total (take k (drop o ns))) size ∙ sum-within ss ns c o half enough room ∙ same))))
-  where
-    size : o + half - o ≡ half
-    size = omega arith
+-- AN ENTRY on the way up: where it stands, what it counts, and with the request done
+module _ {h s gone : ℕ} {t : List ℕ} (x : Tabled h s gone t) (k : s < 2 ^ h) (l : ℕ) (p : l ≤ h) where
+  pub way-in : entryOf (2 ^ h) s l < length t
+  way-in = omega (arith, entry-in h s l k p, ap length (x .right), length-table h (x .segments) (x .size))
 
-    same : length (keys (take half (drop o ss))) ≡ length (keys (take (2 ^ l) (drop (otherHalf (2 ^ l) s) ss)))
-    same = ap₂ (λ (m b : ℕ). length (keys (take m (drop b ss)))) e (f ∙ ap (λ (m : ℕ). otherHalf m s) e)
+  counts : (ss : Segments) → length ss ≡ 2 ^ h → t ≡ tableOf h ss → getD t (entryOf (2 ^ h) s l) 0 ≡ count l s ss
+  counts ss e r = ap (λ (u : List ℕ). getD u (entryOf (2 ^ h) s l) 0) r ∙ table-is h ss e l s p k
+
+  pub way-few : getD t (entryOf (2 ^ h) s l) 0 ≤ 4096
+  way-few = rw (x .right) (omega (arith, table-most h (x .segments) (x .size) (entryOf (2 ^ h) s l), x .few))
+
+  pub way-least : gone ≤ getD t (entryOf (2 ^ h) s l) 0
+  way-least =
+      omega (
+        arith,
+        x .there,
+        counts (x .segments) (x .size) (x .right),
+        count-set-in (x .segments) s [] (omega (arith, x .size)) l s refl,
+      )
+
+  pub way-count : (ss : Segments) (new : List ℕ) (grown : ℕ) → length ss ≡ 2 ^ h → t ≡ tableOf h ss → length new + gone ≡ length (getD ss s []) + grown
+      → getD t (entryOf (2 ^ h) s l) 0 + grown - gone ≡ count l s (set ss s new)
+  way-count ss new grown e r g = omega (arith, counts ss e r, count-set-in ss s new (omega arith) l s refl)
 
 -- NO WINDOW from level 1 to l is within limits
 abbrev pub Tried : Shares → ℕ → Segments → ℕ → Type 0

@@ -1,4 +1,3 @@
-pub mod Halves
 pub mod Grown
 pub mod Standing
 pub mod Places

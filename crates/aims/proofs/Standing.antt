@@ -5,10 +5,13 @@ use Prim.Native.Nat.{ℕ, _*_, _^_, _≤_, _<_}
 use native.Mathlib.Nat.{pow-le-pow-right}
 use native.Mathlib.Omega.{arith}
 use lib.ListN.{length, getD}
-use Rattle.lists.proofs.Members.{at-mem}
 use Rattle.lists.proofs.Filtered.{only-length}
 use Rattle.slots.specs.Segments.{isKey, keys, segmentsOf}
 use Rattle.slots.specs.Shown.{Shows}
+use Rattle.levels.specs.Tables.{tableOf}
+use Rattle.levels.proofs.Tables.{same-height}
+use Rattle.seats.specs.Bounds.{Indexed}
+use Rattle.seats.proofs.Indexes.{keys-few}
 use Rattle.forecast.specs.declared.Forecast.{Forecast}
 use Rattle.forecast.specs.Cells.{usedCells}
 use Rattle.forecast.specs.Tidy.{Tidy, Roomy}
@@ -21,9 +24,10 @@ use Rattle.rules.proofs.Sharing.Table.{lawful}
 use Rattle.rules.proofs.Sharing.Profiles.{profile-named}
 use Rattle.rules.proofs.Requests.StaysGood.{Good}
 use Rattle.rules.proofs.Requests.Checked.{Passed, passed, list-passes, checked, keys-shown, forecast-shown}
-use Rattle.rules.proofs.Requests.Shown.{shows-passed, long-passed}
+use Rattle.rules.proofs.Requests.Shown.{shows-passed}
 use Rattle.shares.specs.declared.Shape.{Shape}
 use Rattle.shares.specs.Rows.{sharesAt, Fetched}
+use Rattle.aims.specs.Climbs.{Tabled}
 use Rattle.aims.specs.Aims.{Known, Stands}
 
 module _ {slots : List ℕ} {F : Forecast} {k : Shape} {n : ℕ} (s : Stands slots F k n) where
@@ -55,12 +59,9 @@ module _ {slots : List ℕ} {F : Forecast} {k : Shape} {n : ℕ} (s : Stands slo
   pub segments-stand : length (segmentsOf slots) ≡ 2 ^ k .height
   segments-stand = good-stands .proper .size
 
-  -- 64 slots for each, from 2 to 64 segments
+  -- 64 slots for each, at most 64 segments
   pub long-stands : length slots ≡ 64 * 2 ^ k .height
   long-stands = passed-stands .number ∙ ap (λ (h : ℕ). 64 * 2 ^ h) (s .height)
-
-  pub some-stands : 128 ≤ length slots
-  some-stands = long-passed number slots list-stands
 
   pub small-stands : length slots ≤ 4096
   small-stands = omega (arith, long-stands, pow-le-pow-right {n = 2} (omega arith) {i = k .height} {j = 6} (height-stands .1))
@@ -79,15 +80,23 @@ module _ {slots : List ℕ} {F : Forecast} {k : Shape} {n : ℕ} (s : Stands slo
   pub tidy-stands : Roomy F → Tidy F
   tidy-stands r = subst Tidy (forecast-shown number slots F (s .passes) r) (is-became (usedCells F) cells-stand .tidy)
 
--- WHAT A CLIMB ASKS for, of a segment of the list and the keys that it will have
-module _ {slots bounds counts : List ℕ} {k : Shape} {n : ℕ} (K : Known slots bounds counts k n) where
-  few-counted : (j : ℕ) → j < length (segmentsOf slots) → getD counts j 0 ≤ 64
-  few-counted j h = omega (arith, K .index .count j h, K .index .shows .fits (getD (segmentsOf slots) j []) (at-mem (segmentsOf slots) j [] h))
+-- THE TABLE, by the height of the shape
+pub right-stands : {slots bounds table : List ℕ} {F : Forecast} {k : Shape} {n : ℕ} → Stands slots F k n → Indexed (segmentsOf slots) slots bounds table
+    → table ≡ tableOf (k .height) (segmentsOf slots)
+right-stands {slots = slots} {k = k} s ix =
+    ix .right ∙ ap (λ (h : ℕ). tableOf h (segmentsOf slots)) (same-height (length (segmentsOf slots)) (ix .height) (k .height) (ix .size) (segments-stand s))
 
-  pub climb-asks : {seg held : ℕ} → seg < length (segmentsOf slots) → held ≤ 65
-      → (1 ≤ k .height) × (k .height ≤ 6) × (2 ^ k .height ≤ length counts) × (seg < 2 ^ k .height) × Fetched (sharesAt k) k × (held ≤ 65)
-      × ((j : ℕ) → j < 2 ^ k .height → getD counts j 0 ≤ 64)
-  climb-asks h f =
-      let size : length (segmentsOf slots) ≡ 2 ^ k .height = segments-stand (K .stands) in
-      let high : (1 ≤ k .height) × (k .height ≤ 6) = height-stands (K .stands) in
-      (high .0, high .1, omega (arith, size, K .index .long), omega (arith, size), K .stands .shape, f, λ j p. few-counted j (omega (arith, size)))
+-- WHAT A CLIMB ASKS for, of a segment of the list and the keys that it gets and loses
+pub climb-asks : {slots bounds table : List ℕ} {k : Shape} {n : ℕ} → Known slots bounds table k n → {seg grown gone : ℕ} → seg < length (segmentsOf slots)
+    → gone ≤ length (getD (segmentsOf slots) seg []) → grown ≤ 1
+    → (1 ≤ k .height) × (k .height ≤ 6) × (seg < 2 ^ k .height) × Fetched (sharesAt k) k × Tabled (k .height) seg gone table × (grown ≤ 1)
+climb-asks {slots} K h m g =
+    let size = segments-stand (K .stands) in
+    let high = height-stands (K .stands) in (
+      high .0,
+      high .1,
+      omega (arith, size),
+      K .stands .shape,
+      record { segments = segmentsOf slots; size = size; few = keys-few (K .index); right = right-stands (K .stands) (K .index); there = m },
+      g,
+    )

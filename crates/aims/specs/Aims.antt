@@ -15,7 +15,7 @@ use Rattle.rules.specs.Refusals.{verdictNumber}
 use Rattle.rules.specs.Shares.{Shares}
 use Rattle.rules.specs.Placing.{Room, home, insertLevel, deleteLevel, outcome}
 use Rattle.rules.specs.Profiles.{numberOf}
-use Rattle.rules.specs.Checks.{check}
+use Rattle.rules.specs.Checks.{checkBoth}
 use Rattle.records.specs.Asked.{asked}
 use Rattle.shares.specs.declared.Shape.{Shape}
 use Rattle.shares.specs.Rows.{sharesAt, Fetched}
@@ -24,16 +24,16 @@ use Rattle.aims.specs.declared.Aim.{Aim}
 
 -- List and forecast pass the check, with this shape and n keys.
 pub record Stands (slots : List ℕ) (F : Forecast) (k : Shape) (n : ℕ) : Type 0 where
-  pub passes : check (numberOf (k .profile)) slots F ≡ 0
+  pub passes : checkBoth (numberOf (k .profile)) slots F ≡ 0
   pub height : heightOf (length slots) ≡ k .height
   pub shape : Fetched (sharesAt k) k
   pub many : length (live slots) ≡ n
 
--- They do with some forecast, and bounds and counts are those of the segments.
-pub record Known (slots bounds counts : List ℕ) (k : Shape) (n : ℕ) : Type 0 where
+-- They do with some forecast, and bounds and table are those of the segments.
+pub record Known (slots bounds table : List ℕ) (k : Shape) (n : ℕ) : Type 0 where
   pub forecast : Forecast
   pub stands : Stands slots forecast k n
-  pub index : Indexed (segmentsOf slots) slots bounds counts
+  pub index : Indexed (segmentsOf slots) slots bounds table
 
 abbrev pub refusedAim : Refusal → Aim
 refusedAim x = record { verdict = Refused x; grows = false; key = 0; before = 0; segment = 0; at = 0; held = 0; level = 0; moves = 0 }

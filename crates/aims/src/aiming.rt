@@ -1,4 +1,4 @@
-// What an insert and a delete come to on a list that has been checked, by the bounds and the counts of its segments.
+// What an insert and a delete come to on a list that has been checked, by the bounds of its segments and its table.
 ghost use mathlib.Core.Path.{_≡_};
 ghost use Rattle.forecast.specs.declared.Forecast.{Forecast};
 ghost use Rattle.rules.specs.declared.Request.{Request};
@@ -30,21 +30,14 @@ fn refuse(refusal: Refusal) -> Aim
 }
 
 // An insert: of the room before it, refusals 5, 6 and 8, or the key's place, and the window to sweep where its segment has no room.
-fn aim_in(
-    list: &[u64],
-    bounds: &[u64],
-    counts: &[usize],
-    shape: Shape,
-    key: u64,
-    keys: usize,
-) -> Aim
-    requires { ⌜ Known (now list) (now bounds) (now counts) shape keys ⌝ }
+fn aim_in(list: &[u64], table: &[usize], bounds: &[u64], shape: Shape, key: u64, keys: usize) -> Aim
+    requires { ⌜ Known (now list) (now bounds) (now table) shape keys ⌝ }
     ensures { λ r. ⌜ ((F : Forecast) → Stands (now (list .entry)) F shape keys → Aimed (sharesAt shape) (Request.Insert key) (roomOf (now (list .entry)) F) r) ⌝ }
 {
     if key == 0 {
         return refuse(Refusal::KeyZero);
     }
-    let spot = seeking::finding::spot(list, bounds, counts, key);
+    let spot = seeking::finding::spot(list, table, bounds, key);
     let place = spot.place;
     if place.present {
         return refuse(Refusal::KeyPresent);
@@ -69,7 +62,7 @@ fn aim_in(
             moves: held - at + 1,
         };
     }
-    let found = climbing::climb(counts, shape, segment, held + 1);
+    let found = climbing::climb(table, shape, segment, 1, 0);
     Aim {
         verdict: Verdict::Accepted,
         grows: true,
@@ -86,19 +79,19 @@ fn aim_in(
 // A delete: refusals 5 and 7, or the key's place, and the window to sweep where its segment falls under its low share, if there is one.
 fn aim_out(
     list: &[u64],
+    table: &[usize],
     bounds: &[u64],
-    counts: &[usize],
     shape: Shape,
     key: u64,
     keys: usize,
 ) -> Aim
-    requires { ⌜ Known (now list) (now bounds) (now counts) shape keys ⌝ }
+    requires { ⌜ Known (now list) (now bounds) (now table) shape keys ⌝ }
     ensures { λ r. ⌜ ((F : Forecast) → Stands (now (list .entry)) F shape keys → Aimed (sharesAt shape) (Request.Delete key) (roomOf (now (list .entry)) F) r) ⌝ }
 {
     if key == 0 {
         return refuse(Refusal::KeyZero);
     }
-    let spot = seeking::finding::spot(list, bounds, counts, key);
+    let spot = seeking::finding::spot(list, table, bounds, key);
     let place = spot.place;
     if !place.present {
         return refuse(Refusal::KeyAbsent);
@@ -107,7 +100,7 @@ fn aim_out(
     let at = place.at;
     let segment = place.segment;
     if held <= shape.low {
-        let found = climbing::climb(counts, shape, segment, held - 1);
+        let found = climbing::climb(table, shape, segment, 0, 1);
         if found.level != 0 {
             return Aim {
                 verdict: Verdict::Accepted,
@@ -138,18 +131,18 @@ fn aim_out(
 // What a request comes to. A bad record is refused.
 pub fn aim(
     list: &[u64],
+    table: &[usize],
     bounds: &[u64],
-    counts: &[usize],
     shape: Shape,
     request: Request,
     keys: usize,
 ) -> Aim
-    requires { ⌜ Known (now list) (now bounds) (now counts) shape keys ⌝ }
+    requires { ⌜ Known (now list) (now bounds) (now table) shape keys ⌝ }
     ensures { λ r. ⌜ ((F : Forecast) → Stands (now (list .entry)) F shape keys → Aimed (sharesAt shape) request (roomOf (now (list .entry)) F) r) ⌝ }
 {
     match request {
-        Request::Insert(key) => aim_in(list, bounds, counts, shape, key, keys),
-        Request::Delete(key) => aim_out(list, bounds, counts, shape, key, keys),
+        Request::Insert(key) => aim_in(list, table, bounds, shape, key, keys),
+        Request::Delete(key) => aim_out(list, table, bounds, shape, key, keys),
         Request::Bad => refuse(Refusal::BadRecord),
     }
 }

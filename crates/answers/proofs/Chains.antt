@@ -11,7 +11,7 @@ use Rattle.rules.specs.PlainSet as set
 use Rattle.rules.specs.Demand2.{Held, told, after, allTold, afterAll, made, ruledAll, emptyRoom, moves, allMoves, IsRoom}
 use Rattle.rules.proofs.Demand2.Answered.{sequence-answered}
 use Rattle.rules.proofs.Demand2.Ruled.{sequence-ruled}
-use Rattle.answers.specs.Chains.{Call, inserted, deleted, lookedUp, scanned, Chain, none, next, Chained}
+use Rattle.answers.specs.Chains.{held, Call, inserted, deleted, lookedUp, scanned, Chain, none, next, Chained}
 
 -- what a call tells, reports and leaves
 record Same (profile : ℕ) (H : Held) (a : set.Ask) (t : set.Told) (m : ℕ) (H′ : Held) : Type 0 where
@@ -23,12 +23,12 @@ same-call : {profile : ℕ} {H H′ : Held} {a : set.Ask} {t : set.Told} {m : �
 same-call (inserted y r left p) = record {
   told = ap (λ (z : Answer). set.Inserted (z .number)) (p .answer);
   moves = ap (λ (z : Answer). z .moves) (p .answer);
-  left = λ i. record { slots = p .slots-left i; forecast = p .forecast i };
+  left = λ i. record { lent = p .lent-left i; forecast = p .forecast i };
 }
 same-call (deleted y r left p) = record {
   told = ap (λ (z : Answer). set.Deleted (z .number) (z .sparse)) (p .answer);
   moves = ap (λ (z : Answer). z .moves) (p .answer);
-  left = λ i. record { slots = p .slots-left i; forecast = p .forecast i };
+  left = λ i. record { lent = p .lent-left i; forecast = p .forecast i };
 }
 same-call (lookedUp y r p) = record { told = ap (λ (f : Found). set.Found (f .number) (f .present)) (p .answer); moves = refl; left = refl }
 same-call (scanned a out r left p) = record { told = λ i. set.Scanned (p .number i) (p .written i) (p .more i) (p .output i); moves = refl; left = refl }
@@ -53,18 +53,18 @@ same-chain (next c cs) = same-next (same-call c) (same-chain cs)
 
 -- after make
 pub chained : Chained
-chained p h from to slots e r left m asks ts ms H c =
-    let d = sequence-answered p h from to slots e asks in
-    let q = sequence-ruled p h from to slots e asks in
+chained p h from to L e t r left m asks ts ms H c =
+    let d = sequence-answered p h from to L e t asks in
+    let q = sequence-ruled p h from to L e t asks in
     record {
       told = s .told ∙ d .0;
-      keys = ap (λ (G : Held). live (G .slots)) (s .left) ∙ d .1;
+      keys = ap (λ (G : Held). live (G .lent .slots)) (s .left) ∙ d .1;
       moves = s .moves ∙ q .1;
       is-room = subst (IsRoom (numberOf p) (shares p h) (ruledAll (shares p h) asks (emptyRoom h))) (sym (s .left)) (q .0);
     }
   where
-    begins : record { slots = left; forecast = r .forecast } ≡ made (numberOf p) slots
-    begins = λ i. record { slots = m .slots-left i; forecast = m .forecast i }
+    begins : held left (r .forecast) ≡ made (numberOf p) L
+    begins = λ i. record { lent = m .lent-left i; forecast = m .forecast i }
 
-    s : SameAll (numberOf p) (made (numberOf p) slots) asks ts ms H
+    s : SameAll (numberOf p) (made (numberOf p) L) asks ts ms H
     s = same-chain (subst (λ G. Chain (numberOf p) G asks ts ms H) begins c)

@@ -1,4 +1,4 @@
--- What make of the rules comes to, by the profile and the length; a lookup of a list that passes; a scan that the check refuses.
+-- What make of the rules comes to, by the profile and the lengths of slots and table; a lookup of a list that passes; a scan that the check refuses.
 use mathlib.Core.Path.{_≡_, sym, ap, _∙_}
 use mathlib.Core.Bool.{true, false}
 use mathlib.Core.Logic.{_≢_}
@@ -9,32 +9,41 @@ use borrow.Author.Tests.{eq-eqb, ne-eqb}
 use lib.ListN.{length, replicate}
 use Rattle.slots.specs.Segments.{Segments, keys, heightOf}
 use Rattle.slots.specs.Keys.{member, segmentOf}
+use Rattle.levels.specs.Tables.{tableSize}
 use Rattle.forecast.specs.Cells.{forecastOf}
 use Rattle.rules.specs.declared.Refusal.{Refusal}
 use Rattle.rules.specs.Refusals.{refusalNumber}
 use Rattle.rules.specs.Profiles.{isProfile}
-use Rattle.rules.specs.Checks.{checkList}
+use Rattle.rules.specs.Lent.{Lent, lend}
+use Rattle.rules.specs.Checks.{checkRead}
 use Rattle.rules.specs.Looking.{notFound, lookedUp, Scanned}
-use Rattle.rules.specs.Calls.{make}
+use Rattle.rules.specs.Calls.{notMade, make}
 use Rattle.rules.proofs.Refusals.Told.{refusal-some}
 use Rattle.rules.proofs.Refusals.CheckCases.{scan-refused}
 use Rattle.answers.specs.declared.ScanAnswer.{ScanAnswer}
 use Rattle.answers.specs.Admits.{ScanAdmits}
 
 -- MAKE
-module _ (profile : ℕ) (slots : List ℕ) where
-  pub make-unknown : isProfile profile ≡ false → make profile slots ≡ record { slots = slots; forecast = forecastOf []; number = 15 }
+module _ (profile : ℕ) (L : Lent) where
+  abbrev h : ℕ
+  h = heightOf (length (L .slots))
+
+  pub make-unknown : isProfile profile ≡ false → make profile L ≡ notMade L 15
   unfolding make
   make-unknown k = rw k
 
-  pub make-refused : isProfile profile ≡ true → heightOf (length slots) ≡ 0 → make profile slots ≡ record { slots = slots; forecast = forecastOf []; number = 1 }
+  pub make-refused : isProfile profile ≡ true → h ≡ 0 → make profile L ≡ notMade L 1
   unfolding make
-  make-refused k e = rw (k, eq-eqb (heightOf (length slots)) 0 e)
+  make-refused k e = rw (k, eq-eqb h 0 e)
 
-  pub make-done : isProfile profile ≡ true → heightOf (length slots) ≢ 0
-      → make profile slots ≡ record { slots = replicate (length slots) 0; forecast = forecastOf []; number = 0 }
+  pub make-wrong-table : isProfile profile ≡ true → h ≢ 0 → length (L .table) ≢ tableSize h → make profile L ≡ notMade L 14
   unfolding make
-  make-done k n = rw (k, ne-eqb (heightOf (length slots)) 0 n)
+  make-wrong-table k n t = rw (k, ne-eqb h 0 n, ne-eqb (length (L .table)) (tableSize h) t)
+
+  pub make-done : isProfile profile ≡ true → h ≢ 0 → length (L .table) ≡ tableSize h
+      → make profile L ≡ record { lent = lend (replicate (length (L .slots)) 0) (replicate (length (L .table)) 0); forecast = forecastOf []; number = 0 }
+  unfolding make
+  make-done k n t = rw (k, ne-eqb h 0 n, eq-eqb (length (L .table)) (tableSize h) t)
 
 -- LOOKUP, of a list that passes
 module _ (y : ℕ) (ss : Segments) where
@@ -52,9 +61,9 @@ module _ (y : ℕ) (ss : Segments) where
 
 -- SCAN
 -- where the check refuses, a scan tells the number, and the output is as it was
-pub refused-admits : (profile : ℕ) (slots : List ℕ) (a : ℕ) (out : List ℕ) (x : Refusal) → checkList profile slots ≡ refusalNumber x → ScanAdmits profile slots a out (ScanAnswer.Refused x) out
-refused-admits profile slots a out x e =
-    let p = scan-refused profile slots a out (omega (arith, refusal-some x)) in
+pub refused-admits : (profile : ℕ) (L : Lent) (a : ℕ) (out : List ℕ) (x : Refusal) → checkRead profile L ≡ refusalNumber x → ScanAdmits profile L a out (ScanAnswer.Refused x) out
+refused-admits profile L a out x e =
+    let p = scan-refused profile L a out (omega (arith, refusal-some x)) in
     record {
       number = sym e ∙ sym (ap (λ (s : Scanned). s .number) p);
       written = sym (ap (λ (s : Scanned). s .written) p);

@@ -15,10 +15,12 @@ use Rattle.rules.specs.declared.Refusal.the-variants.{WrongLength}
 use Rattle.rules.specs.declared.Request.{Request}
 use Rattle.rules.specs.declared.Request.the-variants.{Insert, Delete}
 use Rattle.rules.specs.Profiles.{isProfile}
-use Rattle.rules.specs.Checks.{checkList, check}
+use Rattle.rules.specs.Lent.{Lent}
+use Rattle.rules.specs.Checks.{checkList, checkBoth, checkRead, check}
 use Rattle.rules.specs.Looking.{notFound, Scanned, scanned}
 use Rattle.rules.specs.Calls.{Made, Called, request, unchanged, scan}
 use Rattle.rules.proofs.Requests.Checked.{passed, keys-shown}
+use Rattle.rules.proofs.Requests.Tabled.{read-passed}
 use Rattle.rules.proofs.Requests.SingleCalls.{request-unchecked}
 use Rattle.rules.proofs.Sets.SetScan.{scanned-number, scan-none}
 use Rattle.answers.specs.declared.MakeAnswer.{MakeAnswer}
@@ -32,82 +34,87 @@ use Rattle.answers.specs.declared.DeleteAnswer.{DeleteAnswer}
 use Rattle.answers.specs.declared.DeleteReply.{DeleteReply}
 use Rattle.answers.specs.Answers.{scanPaper}
 use Rattle.answers.specs.Admits.{MakeAdmits, CheckAdmits, LookupAdmits, ScanAdmits, InsertAdmits, DeleteAdmits}
-use Rattle.rules.proofs.Refusals.CheckCases.{wrong-length, list-first}
-use Rattle.rules.proofs.Refusals.CheckCases.{lookup-refused, scan-passed}
+use Rattle.rules.proofs.Refusals.CheckCases.{wrong-length, list-first, read-first, both-first, lookup-refused, scan-passed}
 use Rattle.answers.proofs.Replies.{make-refused, refused-admits}
 use Rattle.answers.proofs.Papers.{make-told, check-told, lookup-told, scan-told, insert-told, delete-told}
 use Rattle.answers.proofs.OneOutcome.{scan-one}
 
--- SUM 10: a length of 0, 64, 192 or 8,192 slots is refused by 1, and all that is lent stays
+-- SUM 10: a length of 0, 64, 192 or 8,192 slots is refused by 1, whatever the table, and all that is lent stays
 abbrev pub wrongLengths : List ℕ
 wrongLengths = 0 ∷ 64 ∷ 192 ∷ 8192 ∷ []
 
-module _ (profile : ℕ) (known : isProfile profile ≡ true) (slots : List ℕ) (m : Mem (length slots) wrongLengths) where
-  no-height : heightOf (length slots) ≡ 0
+module _ (profile : ℕ) (known : isProfile profile ≡ true) (L : Lent) (m : Mem (length (L .slots)) wrongLengths) where
+  no-height : heightOf (length (L .slots)) ≡ 0
   unfolding heightOf
-  no-height = eqb→eq _ _ (all-at (λ n. eqb (heightOf n) 0) wrongLengths tt (length slots) m)
+  no-height = eqb→eq _ _ (all-at (λ n. eqb (heightOf n) 0) wrongLengths tt (length (L .slots)) m)
 
-  one : checkList profile slots ≡ 1
-  one = wrong-length profile slots known no-height
+  one : checkList profile (L .slots) ≡ 1
+  one = wrong-length profile (L .slots) known no-height
 
-  refused : checkList profile slots ≢ 0
+  refused : checkList profile (L .slots) ≢ 0
   refused = omega (arith, one)
 
-  check-one : (F : Forecast) → check profile slots F ≡ 1
-  check-one F = list-first profile slots F refused ∙ one
+  read-one : checkRead profile L ≡ 1
+  read-one = read-first profile L refused ∙ one
 
-  request-one : (q : Request) (F : Forecast) → request profile q slots F ≡ unchanged slots F 1
-  request-one q F = request-unchecked profile q slots F (omega (arith, check-one F)) ∙ ap (unchanged slots F) (check-one F)
+  both-one : (F : Forecast) → checkBoth profile (L .slots) F ≡ 1
+  both-one F = list-first profile (L .slots) F refused ∙ one
 
-  pub make-wrong : (r : MakeReply) (left : List ℕ) → MakeAdmits profile slots r left → (r .answer ≡ MakeAnswer.Refused WrongLength) × (r .forecast ≡ forecastOf []) × (left ≡ slots)
+  check-one : (F : Forecast) → check profile L F ≡ 1
+  check-one F = both-first profile L F (omega (arith, both-one F)) ∙ both-one F
+
+  request-one : (q : Request) (F : Forecast) → request profile q L F ≡ unchanged L F 1
+  request-one q F = request-unchecked profile q L F (omega (arith, check-one F)) ∙ ap (unchanged L F) (check-one F)
+
+  pub make-wrong : (r : MakeReply) (left : Lent) → MakeAdmits profile L r left → (r .answer ≡ MakeAnswer.Refused WrongLength) × (r .forecast ≡ forecastOf []) × (left ≡ L)
   make-wrong r left a =
-      let e = make-refused profile slots known no-height in
-      (make-told (r .answer) (MakeAnswer.Refused WrongLength) (a .answer ∙ ap (λ (d : Made). d .number) e), a .forecast ∙ ap (λ (d : Made). d .forecast) e, a .slots-left ∙ ap (λ (d : Made). d .slots) e)
+      let e = make-refused profile L known no-height in
+      (make-told (r .answer) (MakeAnswer.Refused WrongLength) (a .answer ∙ ap (λ (d : Made). d .number) e), a .forecast ∙ ap (λ (d : Made). d .forecast) e, a .lent-left ∙ ap (λ (d : Made). d .lent) e)
 
-  pub check-wrong : (F : Forecast) (r : CheckAnswer) → CheckAdmits profile slots F r → r ≡ CheckAnswer.Refused WrongLength
+  pub check-wrong : (F : Forecast) (r : CheckAnswer) → CheckAdmits profile L F r → r ≡ CheckAnswer.Refused WrongLength
   check-wrong F r a = check-told r (CheckAnswer.Refused WrongLength) (a .answer ∙ check-one F)
 
-  pub lookup-wrong : (y : ℕ) (r : LookupAnswer) → LookupAdmits profile slots y r → r ≡ LookupAnswer.Refused WrongLength
-  lookup-wrong y r a = lookup-told r (LookupAnswer.Refused WrongLength) (a .answer ∙ lookup-refused profile slots y refused ∙ ap notFound one)
+  pub lookup-wrong : (y : ℕ) (r : LookupAnswer) → LookupAdmits profile L y r → r ≡ LookupAnswer.Refused WrongLength
+  lookup-wrong y r a = lookup-told r (LookupAnswer.Refused WrongLength) (a .answer ∙ lookup-refused profile L y (omega (arith, read-one)) ∙ ap notFound read-one)
 
-  pub scan-wrong : (a : ℕ) (out : List ℕ) (r : ScanAnswer) (left : List ℕ) → ScanAdmits profile slots a out r left → (r ≡ ScanAnswer.Refused WrongLength) × (left ≡ out)
-  scan-wrong a out r left p = scan-one profile slots a out r (ScanAnswer.Refused WrongLength) left out p (refused-admits profile slots a out WrongLength one)
+  pub scan-wrong : (a : ℕ) (out : List ℕ) (r : ScanAnswer) (left : List ℕ) → ScanAdmits profile L a out r left → (r ≡ ScanAnswer.Refused WrongLength) × (left ≡ out)
+  scan-wrong a out r left p = scan-one profile L a out r (ScanAnswer.Refused WrongLength) left out p (refused-admits profile L a out WrongLength read-one)
 
-  pub insert-wrong : (F : Forecast) (y : ℕ) (r : InsertReply) (left : List ℕ) → InsertAdmits profile slots F y r left → (r .answer ≡ InsertAnswer.Refused WrongLength) × (r .forecast ≡ F) × (left ≡ slots)
+  pub insert-wrong : (F : Forecast) (y : ℕ) (r : InsertReply) (left : Lent) → InsertAdmits profile L F y r left → (r .answer ≡ InsertAnswer.Refused WrongLength) × (r .forecast ≡ F) × (left ≡ L)
   insert-wrong F y r left a =
       let e = request-one (Insert y) F in
-      (insert-told (r .answer) (InsertAnswer.Refused WrongLength) (a .answer ∙ ap (λ (d : Called). d .answer) e), a .forecast ∙ ap (λ (d : Called). d .forecast) e, a .slots-left ∙ ap (λ (d : Called). d .slots) e)
+      (insert-told (r .answer) (InsertAnswer.Refused WrongLength) (a .answer ∙ ap (λ (d : Called). d .answer) e), a .forecast ∙ ap (λ (d : Called). d .forecast) e, a .lent-left ∙ ap (λ (d : Called). d .lent) e)
 
-  pub delete-wrong : (F : Forecast) (y : ℕ) (r : DeleteReply) (left : List ℕ) → DeleteAdmits profile slots F y r left → (r .answer ≡ DeleteAnswer.Refused WrongLength) × (r .forecast ≡ F) × (left ≡ slots)
+  pub delete-wrong : (F : Forecast) (y : ℕ) (r : DeleteReply) (left : Lent) → DeleteAdmits profile L F y r left → (r .answer ≡ DeleteAnswer.Refused WrongLength) × (r .forecast ≡ F) × (left ≡ L)
   delete-wrong F y r left a =
       let e = request-one (Delete y) F in
-      (delete-told (r .answer) (DeleteAnswer.Refused WrongLength) (a .answer ∙ ap (λ (d : Called). d .answer) e), a .forecast ∙ ap (λ (d : Called). d .forecast) e, a .slots-left ∙ ap (λ (d : Called). d .slots) e)
+      (delete-told (r .answer) (DeleteAnswer.Refused WrongLength) (a .answer ∙ ap (λ (d : Called). d .answer) e), a .forecast ∙ ap (λ (d : Called). d .forecast) e, a .lent-left ∙ ap (λ (d : Called). d .lent) e)
 
 -- a live key above a exists
 abbrev Exceeds : List ℕ → ℕ → Type 0
 Exceeds ks a = (k : ℕ) × Mem k ks × (a < k)
 
 -- SUM 11: a scan into an empty output writes 0 keys, and says that more remain exactly if a live key above a exists
-pub scan-empty : (profile : ℕ) (slots : List ℕ) (a : ℕ) (r : ScanAnswer) (left : List ℕ) → checkList profile slots ≡ 0 → ScanAdmits profile slots a [] r left
-    → ((r ≡ ScanAnswer.Ended 0) ⊎ (r ≡ ScanAnswer.More 0)) × ((r ≡ ScanAnswer.More 0) ↔ ((k : ℕ) × Mem k (live slots) × (a < k)))
-scan-empty profile slots a r left e p = go (scanned a (segmentsOf slots) [] .more) refl
+pub scan-empty : (profile : ℕ) (L : Lent) (a : ℕ) (r : ScanAnswer) (left : List ℕ) → checkRead profile L ≡ 0 → ScanAdmits profile L a [] r left
+    → ((r ≡ ScanAnswer.Ended 0) ⊎ (r ≡ ScanAnswer.More 0)) × ((r ≡ ScanAnswer.More 0) ↔ ((k : ℕ) × Mem k (live (L .slots)) × (a < k)))
+scan-empty profile L a r left e p = go (scanned a (segmentsOf (L .slots)) [] .more) refl
   where
-    told : T (scanned a (segmentsOf slots) [] .more) ↔ Exceeds (live slots) a
-    told = subst (λ (ks : List ℕ). T (scanned a (segmentsOf slots) [] .more) ↔ Exceeds ks a) (keys-shown profile slots (passed profile slots e)) (scan-none a (segmentsOf slots) .1)
+    told : T (scanned a (segmentsOf (L .slots)) [] .more) ↔ Exceeds (live (L .slots)) a
+    told = subst (λ (ks : List ℕ). T (scanned a (segmentsOf (L .slots)) [] .more) ↔ Exceeds ks a) (keys-shown profile (L .slots) (passed profile (L .slots) (read-passed profile L e .0))) (scan-none a (segmentsOf (L .slots)) .1)
 
-    is : scan profile slots a [] ≡ scanned a (segmentsOf slots) []
-    is = scan-passed profile slots a [] e
+    is : scan profile L a [] ≡ scanned a (segmentsOf (L .slots)) []
+    is = scan-passed profile L a [] e
 
     number : scanPaper r .number ≡ 0
-    number = p .number ∙ ap (λ (s : Scanned). s .number) is ∙ scanned-number a (segmentsOf slots) []
+    number = p .number ∙ ap (λ (s : Scanned). s .number) is ∙ scanned-number a (segmentsOf (L .slots)) []
 
     written : scanPaper r .written ≡ 0
-    written = p .written ∙ ap (λ (s : Scanned). s .written) is ∙ scan-none a (segmentsOf slots) .0
+    written = p .written ∙ ap (λ (s : Scanned). s .written) is ∙ scan-none a (segmentsOf (L .slots)) .0
 
-    more : scanPaper r .more ≡ scanned a (segmentsOf slots) [] .more
+    more : scanPaper r .more ≡ scanned a (segmentsOf (L .slots)) [] .more
     more = p .more ∙ ap (λ (s : Scanned). s .more) is
 
-    go : (b : Bool) → scanned a (segmentsOf slots) [] .more ≡ b → ((r ≡ ScanAnswer.Ended 0) ⊎ (r ≡ ScanAnswer.More 0)) × ((r ≡ ScanAnswer.More 0) ↔ Exceeds (live slots) a)
+    go : (b : Bool) → scanned a (segmentsOf (L .slots)) [] .more ≡ b → ((r ≡ ScanAnswer.Ended 0) ⊎ (r ≡ ScanAnswer.More 0)) × ((r ≡ ScanAnswer.More 0) ↔ Exceeds (live (L .slots)) a)
     go true q =
         let m : r ≡ ScanAnswer.More 0 = scan-told r (ScanAnswer.More 0) (λ i. record { number = number i; written = written i; more = (more ∙ q) i }) in
         (inr m, (λ _. told .0 (rw q tt), λ _. m))

@@ -11,6 +11,7 @@ use lib.ListN.{length}
 use Rattle.lists.proofs.Tests.{either, eq→eqb}
 use Rattle.slots.specs.Segments.{keys, heightOf, render}
 use Rattle.slots.specs.Keys.{member}
+use Rattle.levels.specs.Tables.{tableOf}
 use Rattle.forecast.specs.declared.Forecast.{Forecast}
 use Rattle.forecast.specs.Cells.{forecastOf}
 use Rattle.forecast.specs.Tidy.{Roomy}
@@ -22,7 +23,8 @@ use Rattle.rules.specs.Refusals.{verdictNumber}
 use Rattle.rules.specs.Profiles.{profileOf}
 use Rattle.rules.specs.Shares.{Shares, capacity, sparseBelow}
 use Rattle.rules.specs.Placing.{Room, Answer, Outcome, insertKey, deleteKey, outcome}
-use Rattle.rules.specs.Checks.{sharesOf, check}
+use Rattle.rules.specs.Lent.{Lent}
+use Rattle.rules.specs.Checks.{sharesOf, checkBoth, check}
 use Rattle.rules.specs.Calls.{roomOf, Called, unchanged, request}
 use Rattle.rules.specs.Runs.{recordsOf}
 use Rattle.rules.proofs.Refusals.Told.{refusal-some}
@@ -30,7 +32,8 @@ use Rattle.rules.proofs.Sweeping.Settled.{keys-settled}
 use Rattle.rules.proofs.Requests.Accepted.{settled-sparse, Deletes, delete-accepted, refused-is}
 use Rattle.rules.proofs.Requests.Checked.{checked}
 use Rattle.rules.proofs.Requests.MoveBound.{moves-bound}
-use Rattle.rules.proofs.Requests.SingleCalls.{lent, request-unchecked}
+use Rattle.rules.proofs.Requests.Tabled.{room-passes}
+use Rattle.rules.proofs.Requests.SingleCalls.{lentOutcome, request-unchecked}
 use Rattle.rules.proofs.Demand2.Ruled.{request-ruled}
 use Rattle.records.specs.Asked.{asked}
 use Rattle.records.proofs.Single.{SingleRun, single-run}
@@ -82,52 +85,63 @@ not-accepted Accepted n = absurd (n refl)
 abbrev replyOf : Worked → Bool → Reply
 replyOf r s = record { forecast = r .forecast; verdict = r .last; moves = r .tally .moves; sparse = s }
 
-module _ (profile : ℕ) (b : Bool) (y : ℕ) (slots : List ℕ) (F : Forecast) (bytes : List ℕ) (allowance : ℕ) (r : Worked) (rest : List ℕ) (s : Bool)
-    (t : TellsSparse profile b (r .last) (r .keys) (length slots) s) where
+module _ (profile : ℕ) (b : Bool) (y : ℕ) (L : Lent) (F : Forecast) (bytes : List ℕ) (allowance : ℕ) (r : Worked) (rest : Lent) (s : Bool)
+    (t : TellsSparse profile b (r .last) (r .keys) (length (L .slots)) s) where
   -- WHAT THE CHECK REFUSES
-  requested-refused : check profile slots F ≢ 0 → Refuses profile slots F r rest → Requested profile (asked b y) slots F (replyOf r s) rest
+  requested-refused : check profile L F ≢ 0 → Refuses profile L F r rest → Requested profile (asked b y) L F (replyOf r s) rest
   requested-refused n w =
-      let u : request profile (asked b y) slots F ≡ unchanged slots F (check profile slots F) = request-unchecked profile (asked b y) slots F n in
+      let u : request profile (asked b y) L F ≡ unchanged L F (check profile L F) = request-unchecked profile (asked b y) L F n in
       let p : s ≡ false = t .refused (not-accepted (r .last) (λ z. n (sym (w .last) ∙ z))) in
       record {
         answer = _∙_ {A = Answer} (λ i. record { number = w .last i; moves = w .tally i .moves; sparse = p i }) (sym (ap (λ (d : Called). d .answer) u));
         forecast = w .forecast ∙ sym (ap (λ (d : Called). d .forecast) u);
-        slots-left = w .slots-left ∙ sym (ap (λ (d : Called). d .slots) u);
+        lent-left = w .lent-left ∙ sym (ap (λ (d : Called). d .lent) u);
       }
 
   -- WHAT IT PASSES: a run of one record, with any allowance from 4096 on
   module _ (one : recordsOf bytes ≡ asked b y ∷ []) (big : 4096 ≤ allowance) (h : Roomy F) where
-    module _ (e : check profile slots F ≡ 0) (w : Ends profile slots F bytes allowance r rest) where
-      small : lent profile (asked b y) slots F .answer .moves ≤ allowance
+    module _ (e : check profile L F ≡ 0) (w : Ends profile (L .slots) F bytes allowance r (rest .slots) (rest .table)) where
+      abbrev S : Shares
+      S = sharesOf profile (L .slots)
+
+      abbrev o : Outcome
+      o = lentOutcome profile (asked b y) (L .slots) F
+
+      room : checkBoth profile (L .slots) F ≡ 0
+      room = room-passes profile L F e
+
+      small : o .answer .moves ≤ allowance
       small =
-          let c = checked profile slots F e in
-          omega (arith, moves-bound (profileOf profile) (heightOf (length slots)) (c .0) (c .1) (asked b y) (roomOf slots F) (c .2))
+          let c = checked profile (L .slots) F room in
+          omega (arith, moves-bound (profileOf profile) (heightOf (length (L .slots))) (c .0) (c .1) (asked b y) (roomOf (L .slots) F) (c .2))
 
-      single : SingleRun (sharesOf profile slots) (asked b y) (roomOf slots F) (whole profile slots F bytes allowance)
-      single = single-run (sharesOf profile slots) allowance bytes (roomOf slots F) b y one small
+      single : SingleRun S (asked b y) (roomOf (L .slots) F) (whole profile (L .slots) F bytes allowance)
+      single = single-run S allowance bytes (roomOf (L .slots) F) b y one small
 
-      number : verdictNumber (r .last) ≡ lent profile (asked b y) slots F .answer .number
+      number : verdictNumber (r .last) ≡ o .answer .number
       number = w .single (asked b y) one (single .stop)
 
-      sparse : s ≡ lent profile (asked b y) slots F .answer .sparse
+      sparse : s ≡ o .answer .sparse
       sparse =
-          t .is (checked profile slots F e .0)
-          ∙ ap {B = Bool} (λ n. not b && isAccepted (r .last) && ltb n (sparseBelow (sharesOf profile slots))) (w .keys ∙ ap (λ (R : Room). length (keys (R .segments))) (single .room))
-          ∙ sparse-is (sharesOf profile slots) b y (roomOf slots F) (r .last) number
+          t .is (checked profile (L .slots) F room .0)
+          ∙ ap {B = Bool} (λ n. not b && isAccepted (r .last) && ltb n (sparseBelow S)) (w .keys ∙ ap (λ (R : Room). length (keys (R .segments))) (single .room))
+          ∙ sparse-is S b y (roomOf (L .slots) F) (r .last) number
 
-      requested-done : Requested profile (asked b y) slots F (replyOf r s) rest
+      requested-done : Requested profile (asked b y) L F (replyOf r s) rest
       requested-done =
-          let a = request-ruled profile (asked b y) slots F h e in
+          let a = request-ruled profile (asked b y) L F h e in
+          let slots : rest .slots ≡ request profile (asked b y) L F .lent .slots = w .slots-left ∙ ap (λ (R : Room). render 0 (R .segments)) (single .room) ∙ sym (a .slots) in
+          let table : rest .table ≡ request profile (asked b y) L F .lent .table = w .table-left ∙ ap (λ (R : Room). tableOf (heightOf (length (L .slots))) (R .segments)) (single .room) ∙ sym (a .table) in
           record {
             answer = _∙_ {A = Answer} (λ i. record { number = number i; moves = (ap (λ (t : Tally). t .moves) (w .tally) ∙ single .moves) i; sparse = sparse i }) (sym (a .answer));
             forecast = w .forecast ∙ ap (λ (R : Room). forecastOf (R .cells)) (single .room) ∙ sym (a .forecast);
-            slots-left = w .slots-left ∙ ap (λ (R : Room). render 0 (R .segments)) (single .room) ∙ sym (a .slots);
+            lent-left = λ i. record { slots = slots i; table = table i };
           }
 
     -- EITHER
-    pub requested : Opens profile slots F bytes allowance r rest → Requested profile (asked b y) slots F (replyOf r s) rest
+    pub requested : Opens profile L F bytes allowance r rest → Requested profile (asked b y) L F (replyOf r s) rest
     requested o =
-        elim (decLt 0 (check profile slots F)) [
-          | yes p ↦ (let n : check profile slots F ≢ 0 = omega arith in requested-refused n (o .refused n))
-          | no p ↦ (let c : check profile slots F ≡ 0 = omega arith in requested-done c (o .ended c))
+        elim (decLt 0 (check profile L F)) [
+          | yes p ↦ (let n : check profile L F ≢ 0 = omega arith in requested-refused n (o .refused n))
+          | no p ↦ (let c : check profile L F ≡ 0 = omega arith in requested-done c (o .ended c))
         ]

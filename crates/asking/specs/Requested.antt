@@ -2,7 +2,6 @@
 use Prim.Native.Nat.{ℕ, _≤_}
 use mathlib.Core.Path.{_≡_}
 use mathlib.Core.Bool.{Bool, false, not, _&&_}
-use mathlib.Core.List.{List}
 use lib.Dec.{ltb}
 use Rattle.slots.specs.Segments.{heightOf}
 use Rattle.forecast.specs.declared.Forecast.{Forecast}
@@ -12,6 +11,7 @@ use Rattle.rules.specs.Refusals.{verdictNumber}
 use Rattle.rules.specs.Profiles.{profileOf}
 use Rattle.rules.specs.Shares.{shares, sparseBelow}
 use Rattle.rules.specs.Placing.{Answer}
+use Rattle.rules.specs.Lent.{Lent}
 use Rattle.rules.specs.Calls as rules
 use Rattle.tallies.specs.Counted.{isAccepted}
 use Rattle.asking.specs.declared.Reply.{Reply}
@@ -25,7 +25,7 @@ pub record TellsSparse (profile : ℕ) (grows : Bool) (v : Verdict) (keys long :
 abbrev pub answerOf : Reply → Answer
 answerOf r = record { number = verdictNumber (r .verdict); moves = r .moves; sparse = r .sparse }
 
-pub record Requested (profile : ℕ) (q : Request) (slots : List ℕ) (F : Forecast) (r : Reply) (left : List ℕ) : Type 0 where
-  pub answer : answerOf r ≡ rules.request profile q slots F .answer
-  pub forecast : r .forecast ≡ rules.request profile q slots F .forecast
-  pub slots-left : left ≡ rules.request profile q slots F .slots
+pub record Requested (profile : ℕ) (q : Request) (L : Lent) (F : Forecast) (r : Reply) (left : Lent) : Type 0 where
+  pub answer : answerOf r ≡ rules.request profile q L F .answer
+  pub forecast : r .forecast ≡ rules.request profile q L F .forecast
+  pub lent-left : left ≡ rules.request profile q L F .lent

@@ -1,4 +1,5 @@
 // A single request on anything that is lent: a run of its one record.
+ghost use Rattle.rules.specs.Lent.{lend};
 ghost use Rattle.records.specs.Asked.{asked};
 ghost use Rattle.asking.specs.Requested.{TellsSparse, Requested};
 use forecast::Forecast;
@@ -31,11 +32,18 @@ fn is_sparse(profile: u64, grows: bool, verdict: Verdict, keys: usize, long: usi
 }
 
 // The request's record is worked with an allowance that it cannot pass.
-pub fn ask(profile: u64, list: &mut [u64], forecast: Forecast, grows: bool, key: u64) -> Reply
-    ensures { λ r. ⌜ Requested profile (asked grows key) (now (list .entry)) forecast r (now (list .exit)) ⌝ }
+pub fn ask(
+    profile: u64,
+    list: &mut [u64],
+    table: &mut [usize],
+    forecast: Forecast,
+    grows: bool,
+    key: u64,
+) -> Reply
+    ensures { λ r. ⌜ Requested profile (asked grows key) (lend (now (list .entry)) (now (table .entry))) forecast r (lend (now (list .exit)) (now (table .exit))) ⌝ }
 {
     let bytes = records::record_of(grows, key);
-    let worked = opening::work_lent(profile, list, forecast, &bytes, 18446744073709551615);
+    let worked = opening::work_lent(profile, list, table, forecast, &bytes, 18446744073709551615);
     let after = worked.forecast;
     let tally = worked.tally;
     let last = worked.last;

@@ -9,7 +9,8 @@ use Rattle.rules.specs.declared.Refusal.{Refusal}
 use Rattle.rules.specs.declared.Verdict.the-variants.{Refused, Accepted}
 use Rattle.rules.specs.Refusals.{verdictNumber}
 use Rattle.rules.specs.Profiles.{numberOf}
-use Rattle.rules.specs.Checks.{checkList, check}
+use Rattle.rules.specs.Lent.{Lent}
+use Rattle.rules.specs.Checks.{checkList, checkBoth, checkRead, check}
 use Rattle.shares.specs.Rows.{sharesAt, blankShape, Fetched}
 use Rattle.checks.specs.declared.Listing.{Listing}
 
@@ -25,12 +26,18 @@ pub record Looked (profile : ℕ) (slots : List ℕ) (n : ℕ) (r : Listing) : T
   pub shape : r .verdict ≡ Accepted → Fetched (sharesAt (r .shape)) (r .shape)
   pub keys : r .verdict ≡ Accepted → r .keys ≡ length (live slots)
 
--- The check of the list alone; of list and forecast.
+-- The check of the list alone; of list and forecast; of list and table; of all three.
 abbrev pub ListLooked : ℕ → List ℕ → Listing → Type 0
 ListLooked profile slots r = Looked profile slots (checkList profile slots) r
 
 abbrev pub BothLooked : ℕ → List ℕ → Forecast → Listing → Type 0
-BothLooked profile slots F r = Looked profile slots (check profile slots F) r
+BothLooked profile slots F r = Looked profile slots (checkBoth profile slots F) r
+
+abbrev pub ReadLooked : ℕ → Lent → Listing → Type 0
+ReadLooked profile L r = Looked profile (L .slots) (checkRead profile L) r
+
+abbrev pub LentLooked : ℕ → Lent → Forecast → Listing → Type 0
+LentLooked profile L F r = Looked profile (L .slots) (check profile L F) r
 
 -- Where the check accepts, each segment has its number of keys in its place.
 pub record Counting (slots : List ℕ) (r : Listing) (counts : List ℕ) : Type 0 where

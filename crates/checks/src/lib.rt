@@ -1,7 +1,11 @@
-// The check of what is lent: refusals 15 and 1 to 4.
+// The check of what is lent: refusals 15, 1 to 4 and 14.
 ghost use mathlib.Core.Path.{_≡_};
+ghost use mathlib.Core.List.{List};
+ghost use Prim.Native.Nat.{ℕ, _/_};
 ghost use lib.ListN.{length};
-ghost use Rattle.checks.specs.Listings.{refusing, ListLooked, BothLooked, Counting};
+ghost use Rattle.rules.specs.Lent.{lend};
+ghost use Rattle.rules.specs.Checks.{checkList, thenTable};
+ghost use Rattle.checks.specs.Listings.{refusing, Looked, ListLooked, BothLooked, ReadLooked, LentLooked, Counting};
 use forecast::Forecast;
 use rules::Refusal;
 use rules::Verdict;
@@ -26,7 +30,7 @@ fn refuse(refusal: Refusal) -> Listing
 }
 
 // Refusals 15 and 1 to 3, of any number for a profile and any slots; where it accepts, the number of keys of each segment is in its place of `counts`.
-pub fn look_over(profile: u64, list: &[u64], counts: &mut [usize]) -> Listing
+fn look_over(profile: u64, list: &[u64], counts: &mut [usize]) -> Listing
     requires { ⌜ length (now counts) ≡ 64 ⌝ }
     ensures looked { λ r. ⌜ ListLooked profile (now (list .entry)) r ⌝ }
     ensures counts { λ r. ⌜ Counting (now (list .entry)) r (now (counts .exit)) ⌝ }
@@ -55,12 +59,7 @@ pub fn look_over(profile: u64, list: &[u64], counts: &mut [usize]) -> Listing
 }
 
 // Refusals 15 and 1 to 4, with any forecast; the counts as above.
-pub fn look_over_both(
-    profile: u64,
-    list: &[u64],
-    forecast: Forecast,
-    counts: &mut [usize],
-) -> Listing
+fn look_over_both(profile: u64, list: &[u64], forecast: Forecast, counts: &mut [usize]) -> Listing
     requires { ⌜ length (now counts) ≡ 64 ⌝ }
     ensures looked { λ r. ⌜ BothLooked profile (now (list .entry)) forecast r ⌝ }
     ensures counts { λ r. ⌜ Counting (now (list .entry)) r (now (counts .exit)) ⌝ }
@@ -76,4 +75,37 @@ pub fn look_over_both(
         return refuse(Refusal::WrongForecast);
     }
     listing
+}
+
+// Refusal 14, where nothing was found before it: the table of a list of `n` segments, by the counts of its segments.
+fn then_table(listing: Listing, table: &[usize], counts: &[usize], n: usize) -> Listing
+    requires { ⌜ ((profile : ℕ) × (slots : List ℕ) × (m : ℕ) × Looked profile slots m listing × (m ≡ 0 → checkList profile slots ≡ 0) × (n ≡ length slots / 64) × Counting slots listing (now counts)) ⌝ }
+    ensures { λ r. ⌜ ((profile : ℕ) (slots : List ℕ) (m : ℕ) → Looked profile slots m listing → (m ≡ 0 → checkList profile slots ≡ 0) → n ≡ length slots / 64 → Counting slots listing (now (counts .entry)) → Looked profile slots (thenTable m (lend slots (now (table .entry)))) r) ⌝ }
+{
+    let verdict = listing.verdict;
+    if let Verdict::Refused(_) = verdict {
+        return listing;
+    }
+    if tables::checking::is_right(table, counts, n) {
+        return listing;
+    }
+    refuse(Refusal::WrongTable)
+}
+
+// Where no forecast is lent: refusals 15, 1 to 3 and 14, of any number for a profile, any slots and any table.
+pub fn look_read(profile: u64, list: &[u64], table: &[usize]) -> Listing
+    ensures { λ r. ⌜ ReadLooked profile (lend (now (list .entry)) (now (table .entry))) r ⌝ }
+{
+    let mut counts: [usize; 64] = [0; 64];
+    let listing = look_over(profile, list, &mut counts);
+    then_table(listing, table, &counts, list.len() / 64)
+}
+
+// Refusals 15, 1 to 4 and 14, with any forecast.
+pub fn look_lent(profile: u64, list: &[u64], table: &[usize], forecast: Forecast) -> Listing
+    ensures { λ r. ⌜ LentLooked profile (lend (now (list .entry)) (now (table .entry))) forecast r ⌝ }
+{
+    let mut counts: [usize; 64] = [0; 64];
+    let listing = look_over_both(profile, list, forecast, &mut counts);
+    then_table(listing, table, &counts, list.len() / 64)
 }

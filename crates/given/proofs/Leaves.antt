@@ -16,15 +16,16 @@ use Rattle.rules.specs.declared.Totals.{Totals}
 use Rattle.rules.specs.Looking.{Found, Scanned}
 use Rattle.rules.specs.Runs.{one}
 use Rattle.rules.specs.Checks as checks
+use Rattle.rules.specs.Lent.{Lent, lend}
 use Rattle.rules.specs.Calls as rules
-use Rattle.rules.specs.Rows.{Row, Tells, row1, row15, listRows, lookupRows, insertRows, deleteRows}
+use Rattle.rules.specs.Rows.{Row, Tells, makeRows, readRows, lookupRows, insertRows, deleteRows}
 use Rattle.rules.proofs.Refusals.Numbers as below
 use Rattle.rules.proofs.Refusals.Refused.{request-refused, lookup-refused, scan-refused, make-refused}
 use Rattle.rules.proofs.Running.Runs.{run-refused}
 use Rattle.rules.proofs.Running.Singly as singly
 use Rattle.words.specs.Words.{cellWords, forecastIn, forecastWords}
 use Rattle.words.specs.Totals.{totalsIn, totalsWords}
-use Rattle.given.specs.Calls.{Given, sized, notForecast, notTotals, short, over, replyWords, make, lookup, insert, delete, scan, run}
+use Rattle.given.specs.Calls.{Given, sized, notForecast, notTotals, short, over, leftBy, replyWords, make, lookup, insert, delete, scan, run}
 use Rattle.given.specs.Refused.{Leaves, MakeLeaves, LookupLeaves, ScanLeaves, InsertLeaves, DeleteLeaves, RunLeaves}
 use Rattle.words.proofs.WordLaws.{words-again}
 use Rattle.given.proofs.Sizes.{forecast-fits, totals-fit}
@@ -62,57 +63,57 @@ totals-again (a ∷ b ∷ c ∷ d ∷ e ∷ ws) h = absurd (omega arith)
 -- THE CALLS
 pub make-leaves : MakeLeaves
 unfolding make forecastOf padded cellWords cells
-make-leaves profile list forecast =
-    leaves (notForecast forecast) _ _ _ (small (row15 profile ∷ row1 list ∷ []) _ tt (below.make-tells profile list)) λ t n _ _.
-    ap (λ (m : rules.Made). m .slots ∷ forecastWords (m .forecast) ∷ []) (make-refused profile list n)
+make-leaves profile list table forecast =
+    leaves (notForecast forecast) _ _ _ (small (makeRows profile (lend list table)) _ tt (below.make-tells profile (lend list table))) λ t n _ _.
+    ap (λ (m : rules.Made). m .lent .slots ∷ m .lent .table ∷ forecastWords (m .forecast) ∷ []) (make-refused profile (lend list table) n)
 
 pub lookup-leaves : LookupLeaves
 unfolding lookup
-lookup-leaves profile list key reply =
-    leaves (short reply 2) _ _ _ (small (lookupRows profile list key) _ tt (below.lookup-tells profile list key)) λ t n _ _.
-    ap (λ (f : Found). over (one (f .present) ∷ f .segment ∷ []) reply ∷ []) (lookup-refused profile list key n)
+lookup-leaves profile list table key reply =
+    leaves (short reply 2) _ _ _ (small (lookupRows profile (lend list table) key) _ tt (below.lookup-tells profile (lend list table) key)) λ t n _ _.
+    ap (λ (f : Found). over (one (f .present) ∷ f .segment ∷ []) reply ∷ []) (lookup-refused profile (lend list table) key n)
 
 pub scan-leaves : ScanLeaves
 unfolding scan
-scan-leaves profile list from output reply =
-    leaves (short reply 2) _ _ _ (small (listRows profile list) _ tt (below.scan-tells profile list from output)) λ t n _ _.
-    ap (λ (c : Scanned). c .output ∷ over (c .written ∷ one (c .more) ∷ []) reply ∷ []) (scan-refused profile list from output n)
+scan-leaves profile list table from output reply =
+    leaves (short reply 2) _ _ _ (small (readRows profile (lend list table)) _ tt (below.scan-tells profile (lend list table) from output)) λ t n _ _.
+    ap (λ (c : Scanned). c .output ∷ over (c .written ∷ one (c .more) ∷ []) reply ∷ []) (scan-refused profile (lend list table) from output n)
 
 pub insert-leaves : InsertLeaves
 unfolding insert
-insert-leaves profile list forecast key reply =
+insert-leaves profile list table forecast key reply =
     leaves (notForecast forecast || short reply 1) _ _ _
-    (small (insertRows profile list (forecastIn forecast) key) _ tt (below.insert-tells profile list (forecastIn forecast) key (roomy forecast))) λ t n _ _.
-    ap (λ (c : rules.Called). c .slots ∷ forecastWords (c .forecast) ∷ over (c .answer .moves ∷ []) reply ∷ []) (request-refused profile (Insert key) list (forecastIn forecast) n)
-    ∙ ap (λ (ws : List ℕ). list ∷ ws ∷ over (0 ∷ []) reply ∷ []) (words-again forecast (forecast-fits forecast (neither (notForecast forecast) _ t .0)))
+    (small (insertRows profile (lend list table) (forecastIn forecast) key) _ tt (below.insert-tells profile (lend list table) (forecastIn forecast) key (roomy forecast))) λ t n _ _.
+    ap (λ (c : rules.Called). leftBy c (over (c .answer .moves ∷ []) reply)) (request-refused profile (Insert key) (lend list table) (forecastIn forecast) n)
+    ∙ ap (λ (ws : List ℕ). list ∷ table ∷ ws ∷ over (0 ∷ []) reply ∷ []) (words-again forecast (forecast-fits forecast (neither (notForecast forecast) _ t .0)))
 
 pub delete-leaves : DeleteLeaves
 unfolding delete
-delete-leaves profile list forecast key reply =
+delete-leaves profile list table forecast key reply =
     leaves (notForecast forecast || short reply 2) _ _ _
-    (small (deleteRows profile list (forecastIn forecast) key) _ tt (below.delete-tells profile list (forecastIn forecast) key (roomy forecast))) λ t n _ _.
-    ap (λ (c : rules.Called). c .slots ∷ forecastWords (c .forecast) ∷ over (c .answer .moves ∷ one (c .answer .sparse) ∷ []) reply ∷ [])
-    (request-refused profile (Delete key) list (forecastIn forecast) n)
-    ∙ ap (λ (ws : List ℕ). list ∷ ws ∷ over (0 ∷ 0 ∷ []) reply ∷ []) (words-again forecast (forecast-fits forecast (neither (notForecast forecast) _ t .0)))
+    (small (deleteRows profile (lend list table) (forecastIn forecast) key) _ tt (below.delete-tells profile (lend list table) (forecastIn forecast) key (roomy forecast))) λ t n _ _.
+    ap (λ (c : rules.Called). leftBy c (over (c .answer .moves ∷ one (c .answer .sparse) ∷ []) reply))
+    (request-refused profile (Delete key) (lend list table) (forecastIn forecast) n)
+    ∙ ap (λ (ws : List ℕ). list ∷ table ∷ ws ∷ over (0 ∷ 0 ∷ []) reply ∷ []) (words-again forecast (forecast-fits forecast (neither (notForecast forecast) _ t .0)))
 
 -- A RUN whose stop is none of 0, 9 and 10 was refused by its check
-unchecked : (profile : ℕ) (list : List ℕ) (F : Forecast) (requests : List ℕ) (allowance : ℕ) (S : Totals) → rules.run profile list F requests allowance S .reply .stop ≢ 0
-    → rules.run profile list F requests allowance S .reply .stop ≢ 9 → rules.run profile list F requests allowance S .reply .stop ≢ 10 → checks.check profile list F ≢ 0
-unchecked profile list F requests allowance S n m k z =
-    elim (singly.run-tells profile list F requests allowance S z .0) [
+unchecked : (profile : ℕ) (L : Lent) (F : Forecast) (requests : List ℕ) (allowance : ℕ) (S : Totals) → rules.run profile L F requests allowance S .reply .stop ≢ 0
+    → rules.run profile L F requests allowance S .reply .stop ≢ 9 → rules.run profile L F requests allowance S .reply .stop ≢ 10 → checks.check profile L F ≢ 0
+unchecked profile L F requests allowance S n m k z =
+    elim (singly.run-tells profile L F requests allowance S z .0) [
       | inl x ↦ m (x .1)
       | inr x ↦ elim (x .1) [ inl y ↦ k (y .1) | inr y ↦ n (y .1) ]
     ]
 
 pub run-leaves : RunLeaves
 unfolding run
-run-leaves profile list forecast requests allowance totals reply =
+run-leaves profile list table forecast requests allowance totals reply =
     leaves (notForecast forecast || (notTotals totals || short reply 4)) _ _ _
-    (small (allRows profile list forecast requests allowance totals reply) _ tt (below-tells profile list forecast requests allowance totals reply)) λ t n m k.
+    (small (allRows profile (lend list table) forecast requests allowance totals reply) _ tt (below-tells profile (lend list table) forecast requests allowance totals reply)) λ t n m k.
     let F = forecastIn forecast in
     let S = totalsIn totals in
     let f = forecast-fits forecast (neither (notForecast forecast) _ t .0) in
     let g = totals-fit totals (neither (notTotals totals) _ (neither (notForecast forecast) _ t .1) .0) in
-    ap (λ (w : rules.Worked). w .slots ∷ forecastWords (w .forecast) ∷ totalsWords (w .totals) ∷ over (replyWords (w .reply .tally)) reply ∷ [])
-    (run-refused profile list F requests allowance S (unchecked profile list F requests allowance S n m k))
-    ∙ (λ i. list ∷ words-again forecast f i ∷ totals-again totals g i ∷ over (0 ∷ 0 ∷ 0 ∷ 0 ∷ []) reply ∷ [])
+    ap (λ (w : rules.Worked). w .lent .slots ∷ w .lent .table ∷ forecastWords (w .forecast) ∷ totalsWords (w .totals) ∷ over (replyWords (w .reply .tally)) reply ∷ [])
+    (run-refused profile (lend list table) F requests allowance S (unchecked profile (lend list table) F requests allowance S n m k))
+    ∙ (λ i. list ∷ table ∷ words-again forecast f i ∷ totals-again totals g i ∷ over (0 ∷ 0 ∷ 0 ∷ 0 ∷ []) reply ∷ [])

@@ -3,14 +3,15 @@ use Prim.Native.Nat.{ℕ, _<_}
 use mathlib.Core.Path.{refl, ap}
 use mathlib.Core.Bool.{Bool, true, false, not, _||_}
 use mathlib.Core.Logic.{_⊎_, inl, inr, _≢_}
-use mathlib.Core.List.{List, [], _∷_}
+use mathlib.Core.List.{List, _∷_}
 use native.Mathlib.Omega.{arith}
 use lib.Dec.{eqb, ltb, eqb→eq, ltb→lt, nltb→le}
 use lib.ListN.{length}
 use Rattle.lists.proofs.Tests.{double-not, neqb→ne}
 use Rattle.rules.specs.Checks as checks
+use Rattle.rules.specs.Lent.{Lent, lend}
 use Rattle.rules.specs.Calls as rules
-use Rattle.rules.specs.Rows.{Row, Tells, row1, row15, listRows, bothRows, lookupRows, insertRows, deleteRows, stopRows, runRows}
+use Rattle.rules.specs.Rows.{Row, Tells, makeRows, readRows, bothRows, lookupRows, insertRows, deleteRows, stopRows, runRows}
 use Rattle.rules.proofs.Refusals.RowsInOrder.{Decides, tells-if, tells-after}
 use Rattle.rules.proofs.Refusals.Numbers as below
 use Rattle.rules.proofs.Running.Runs.{run-refused}
@@ -45,23 +46,25 @@ sized-tells wrong W rs lent o d t = tells-if (λ (x : Given). x .number) wrong (
 
 pub make-tells : MakeTells
 unfolding make
-make-tells profile list forecast = sized-tells (notForecast forecast) (NotForecast forecast) (row15 profile ∷ row1 list ∷ []) _ _ (unequal (length forecast) 37) (below.make-tells profile list)
+make-tells profile list table forecast =
+    sized-tells (notForecast forecast) (NotForecast forecast) (makeRows profile (lend list table)) _ _ (unequal (length forecast) 37)
+    (below.make-tells profile (lend list table))
 
 pub check-tells : CheckTells
 unfolding check
-check-tells profile list forecast =
-    sized-tells (notForecast forecast) (NotForecast forecast) (bothRows profile list (forecastIn forecast)) _ _ (unequal (length forecast) 37)
-    (below.check-tells profile list (forecastIn forecast) (roomy forecast))
+check-tells profile list table forecast =
+    sized-tells (notForecast forecast) (NotForecast forecast) (bothRows profile (lend list table) (forecastIn forecast)) _ _ (unequal (length forecast) 37)
+    (below.check-tells profile (lend list table) (forecastIn forecast) (roomy forecast))
 
 pub lookup-tells : LookupTells
 unfolding lookup
-lookup-tells profile list key reply =
-    sized-tells (short reply 2) (length reply < 2) (lookupRows profile list key) _ _ (shorter (length reply) 2) (below.lookup-tells profile list key)
+lookup-tells profile list table key reply =
+    sized-tells (short reply 2) (length reply < 2) (lookupRows profile (lend list table) key) _ _ (shorter (length reply) 2) (below.lookup-tells profile (lend list table) key)
 
 pub scan-tells : ScanTells
 unfolding scan
-scan-tells profile list from output reply =
-    sized-tells (short reply 2) (length reply < 2) (listRows profile list) _ _ (shorter (length reply) 2) (below.scan-tells profile list from output)
+scan-tells profile list table from output reply =
+    sized-tells (short reply 2) (length reply < 2) (readRows profile (lend list table)) _ _ (shorter (length reply) 2) (below.scan-tells profile (lend list table) from output)
 
 -- a forecast and a reply of n words
 both : (forecast reply : List ℕ) (n : ℕ) → Decides (notForecast forecast || short reply n) (row100 (NotForecast forecast ⊎ (length reply < n)))
@@ -69,30 +72,30 @@ both forecast reply n = either-size (notForecast forecast) (short reply n) _ _ (
 
 pub insert-tells : InsertTells
 unfolding insert
-insert-tells profile list forecast key reply =
-    sized-tells (notForecast forecast || short reply 1) (NotForecast forecast ⊎ (length reply < 1)) (insertRows profile list (forecastIn forecast) key) _ _
-    (both forecast reply 1) (below.insert-tells profile list (forecastIn forecast) key (roomy forecast))
+insert-tells profile list table forecast key reply =
+    sized-tells (notForecast forecast || short reply 1) (NotForecast forecast ⊎ (length reply < 1)) (insertRows profile (lend list table) (forecastIn forecast) key) _ _
+    (both forecast reply 1) (below.insert-tells profile (lend list table) (forecastIn forecast) key (roomy forecast))
 
 pub delete-tells : DeleteTells
 unfolding delete
-delete-tells profile list forecast key reply =
-    sized-tells (notForecast forecast || short reply 2) (NotForecast forecast ⊎ (length reply < 2)) (deleteRows profile list (forecastIn forecast) key) _ _
-    (both forecast reply 2) (below.delete-tells profile list (forecastIn forecast) key (roomy forecast))
+delete-tells profile list table forecast key reply =
+    sized-tells (notForecast forecast || short reply 2) (NotForecast forecast ⊎ (length reply < 2)) (deleteRows profile (lend list table) (forecastIn forecast) key) _ _
+    (both forecast reply 2) (below.delete-tells profile (lend list table) (forecastIn forecast) key (roomy forecast))
 
 -- A RUN
-module _ (profile : ℕ) (list forecast requests : List ℕ) (allowance : ℕ) (totals reply : List ℕ) where
+module _ (profile : ℕ) (L : Lent) (forecast requests : List ℕ) (allowance : ℕ) (totals reply : List ℕ) where
   abbrev W : rules.Worked
-  W = rules.run profile list (forecastIn forecast) requests allowance (totalsIn totals)
+  W = rules.run profile L (forecastIn forecast) requests allowance (totalsIn totals)
 
   abbrev pub allRows : List Row
-  allRows = runRows profile list (forecastIn forecast) requests allowance W
+  allRows = runRows profile L (forecastIn forecast) requests allowance W
 
   pub below-tells : Tells allRows (W .reply .stop)
   below-tells =
-      tells-after (bothRows profile list (forecastIn forecast)) (stopRows profile requests allowance W) (checks.check profile list (forecastIn forecast)) (W .reply .stop) (omega arith)
-      (below.check-tells profile list (forecastIn forecast) (roomy forecast))
-      (λ n. ap (λ (w : rules.Worked). w .reply .stop) (run-refused profile list (forecastIn forecast) requests allowance (totalsIn totals) n)) λ z.
-      singly.run-tells profile list (forecastIn forecast) requests allowance (totalsIn totals) z .0
+      tells-after (bothRows profile L (forecastIn forecast)) (stopRows profile requests allowance W) (checks.check profile L (forecastIn forecast)) (W .reply .stop) (omega arith)
+      (below.check-tells profile L (forecastIn forecast) (roomy forecast))
+      (λ n. ap (λ (w : rules.Worked). w .reply .stop) (run-refused profile L (forecastIn forecast) requests allowance (totalsIn totals) n)) λ z.
+      singly.run-tells profile L (forecastIn forecast) requests allowance (totalsIn totals) z .0
 
   sizes : Decides (notForecast forecast || (notTotals totals || short reply 4)) (row100 (NotForecast forecast ⊎ ((length totals ≢ 4) ⊎ (length reply < 4))))
   sizes =
@@ -101,7 +104,7 @@ module _ (profile : ℕ) (list forecast requests : List ℕ) (allowance : ℕ) (
 
 pub run-tells : RunTells
 unfolding run
-run-tells profile list forecast requests allowance totals reply =
+run-tells profile list table forecast requests allowance totals reply =
     sized-tells (notForecast forecast || (notTotals totals || short reply 4)) (NotForecast forecast ⊎ ((length totals ≢ 4) ⊎ (length reply < 4)))
-    (allRows profile list forecast requests allowance totals reply) _ _ (sizes profile list forecast requests allowance totals reply)
-    (below-tells profile list forecast requests allowance totals reply)
+    (allRows profile (lend list table) forecast requests allowance totals reply) _ _ (sizes profile (lend list table) forecast requests allowance totals reply)
+    (below-tells profile (lend list table) forecast requests allowance totals reply)

@@ -11,6 +11,7 @@ use Rattle.rules.specs.declared.Tally.{Tally}
 use Rattle.rules.specs.Looking.{Found, Scanned}
 use Rattle.rules.specs.Runs.{one}
 use Rattle.rules.specs.Checks as checks
+use Rattle.rules.specs.Lent.{lend}
 use Rattle.rules.specs.Calls as rules
 use Rattle.words.specs.Words.{forecastIn, forecastWords}
 use Rattle.words.specs.Totals.{totalsIn, totalsWords}
@@ -36,41 +37,44 @@ short reply n = ltb (length reply) n
 abbrev pub over : List ℕ → List ℕ → List ℕ
 over ws reply = ws ++ drop (length ws) reply
 
-unfoldable pub make : ℕ → List ℕ → List ℕ → Given
-make profile list forecast =
-    let m : rules.Made = rules.make profile list in
-    sized (notForecast forecast) (list ∷ forecast ∷ []) (record { number = m .number; left = m .slots ∷ forecastWords (m .forecast) ∷ [] })
+unfoldable pub make : ℕ → List ℕ → List ℕ → List ℕ → Given
+make profile list table forecast =
+    let m : rules.Made = rules.make profile (lend list table) in
+    sized (notForecast forecast) (list ∷ table ∷ forecast ∷ [])
+    (record { number = m .number; left = m .lent .slots ∷ m .lent .table ∷ forecastWords (m .forecast) ∷ [] })
 
-unfoldable pub check : ℕ → List ℕ → List ℕ → Given
-check profile list forecast = sized (notForecast forecast) [] (record { number = checks.check profile list (forecastIn forecast); left = [] })
+unfoldable pub check : ℕ → List ℕ → List ℕ → List ℕ → Given
+check profile list table forecast =
+    sized (notForecast forecast) [] (record { number = checks.check profile (lend list table) (forecastIn forecast); left = [] })
 
 -- reply: present, segment
-unfoldable pub lookup : ℕ → List ℕ → ℕ → List ℕ → Given
-lookup profile list key reply =
-    let f : Found = rules.lookup profile list key in
+unfoldable pub lookup : ℕ → List ℕ → List ℕ → ℕ → List ℕ → Given
+lookup profile list table key reply =
+    let f : Found = rules.lookup profile (lend list table) key in
     sized (short reply 2) (reply ∷ []) (record { number = f .number; left = over (one (f .present) ∷ f .segment ∷ []) reply ∷ [] })
 
+-- What an insert or a delete leaves, with this reply.
+abbrev pub leftBy : rules.Called → List ℕ → List (List ℕ)
+leftBy c reply = c .lent .slots ∷ c .lent .table ∷ forecastWords (c .forecast) ∷ reply ∷ []
+
 -- reply: moves
-unfoldable pub insert : ℕ → List ℕ → List ℕ → ℕ → List ℕ → Given
-insert profile list forecast key reply =
-    let c : rules.Called = rules.insert profile list (forecastIn forecast) key in
-    sized (notForecast forecast || short reply 1) (list ∷ forecast ∷ reply ∷ [])
-    (record { number = c .answer .number; left = c .slots ∷ forecastWords (c .forecast) ∷ over (c .answer .moves ∷ []) reply ∷ [] })
+unfoldable pub insert : ℕ → List ℕ → List ℕ → List ℕ → ℕ → List ℕ → Given
+insert profile list table forecast key reply =
+    let c : rules.Called = rules.insert profile (lend list table) (forecastIn forecast) key in
+    sized (notForecast forecast || short reply 1) (list ∷ table ∷ forecast ∷ reply ∷ [])
+    (record { number = c .answer .number; left = leftBy c (over (c .answer .moves ∷ []) reply) })
 
 -- reply: moves, sparse
-unfoldable pub delete : ℕ → List ℕ → List ℕ → ℕ → List ℕ → Given
-delete profile list forecast key reply =
-    let c : rules.Called = rules.delete profile list (forecastIn forecast) key in
-    sized (notForecast forecast || short reply 2) (list ∷ forecast ∷ reply ∷ [])
-    (record {
-      number = c .answer .number;
-      left = c .slots ∷ forecastWords (c .forecast) ∷ over (c .answer .moves ∷ one (c .answer .sparse) ∷ []) reply ∷ [];
-    })
+unfoldable pub delete : ℕ → List ℕ → List ℕ → List ℕ → ℕ → List ℕ → Given
+delete profile list table forecast key reply =
+    let c : rules.Called = rules.delete profile (lend list table) (forecastIn forecast) key in
+    sized (notForecast forecast || short reply 2) (list ∷ table ∷ forecast ∷ reply ∷ [])
+    (record { number = c .answer .number; left = leftBy c (over (c .answer .moves ∷ one (c .answer .sparse) ∷ []) reply) })
 
 -- reply: written, more
-unfoldable pub scan : ℕ → List ℕ → ℕ → List ℕ → List ℕ → Given
-scan profile list from output reply =
-    let s : Scanned = rules.scan profile list from output in
+unfoldable pub scan : ℕ → List ℕ → List ℕ → ℕ → List ℕ → List ℕ → Given
+scan profile list table from output reply =
+    let s : Scanned = rules.scan profile (lend list table) from output in
     sized (short reply 2) (output ∷ reply ∷ [])
     (record { number = s .number; left = s .output ∷ over (s .written ∷ one (s .more) ∷ []) reply ∷ [] })
 
@@ -78,13 +82,13 @@ scan profile list from output reply =
 abbrev pub replyWords : Tally → List ℕ
 replyWords t = t .worked ∷ t .refused ∷ t .moves ∷ t .place ∷ []
 
-unfoldable pub run : ℕ → List ℕ → List ℕ → List ℕ → ℕ → List ℕ → List ℕ → Given
-run profile list forecast requests allowance totals reply =
-    let w : rules.Worked = rules.run profile list (forecastIn forecast) requests allowance (totalsIn totals) in
-    sized (notForecast forecast || (notTotals totals || short reply 4)) (list ∷ forecast ∷ totals ∷ reply ∷ [])
+unfoldable pub run : ℕ → List ℕ → List ℕ → List ℕ → List ℕ → ℕ → List ℕ → List ℕ → Given
+run profile list table forecast requests allowance totals reply =
+    let w : rules.Worked = rules.run profile (lend list table) (forecastIn forecast) requests allowance (totalsIn totals) in
+    sized (notForecast forecast || (notTotals totals || short reply 4)) (list ∷ table ∷ forecast ∷ totals ∷ reply ∷ [])
     (record {
       number = w .reply .stop;
-      left = w .slots ∷ forecastWords (w .forecast) ∷ totalsWords (w .totals) ∷ over (replyWords (w .reply .tally)) reply ∷ [];
+      left = w .lent .slots ∷ w .lent .table ∷ forecastWords (w .forecast) ∷ totalsWords (w .totals) ∷ over (replyWords (w .reply .tally)) reply ∷ [];
     })
 
 -- What each call promises: the number that it returns and what it leaves are those of its definition.

@@ -4,37 +4,48 @@ ghost use Rattle.given.specs.Calls.{Gives};
 ghost use Rattle.given.specs.Calls as calls;
 use crate::MISFIT;
 
-// Makes a list and its forecast empty.
+// Makes a list, its table and its forecast empty.
 #[no_mangle]
-pub extern "C" fn ff_make(profile: u64, list: &mut [u64], forecast: &mut [u64]) -> u64
-    ensures { λ r. ⌜ Gives (calls.make profile (now (list .entry)) (now (forecast .entry))) r (now (list .exit) ∷ now (forecast .exit) ∷ []) ⌝ }
+pub extern "C" fn ff_make(
+    profile: u64,
+    list: &mut [u64],
+    table: &mut [usize],
+    forecast: &mut [u64],
+) -> u64
+    ensures { λ r. ⌜ Gives (calls.make profile (now (list .entry)) (now (table .entry)) (now (forecast .entry))) r (now (list .exit) ∷ now (table .exit) ∷ now (forecast .exit) ∷ []) ⌝ }
 {
     if replies::sizes::no_forecast(forecast.len()) {
         return MISFIT;
     }
-    stated::make(profile, list, forecast)
+    stated::make(profile, list, table, forecast)
 }
 
-// Tests refusals 15 and 1 to 4.
+// Tests refusals 15, 1 to 4 and 14.
 #[no_mangle]
-pub extern "C" fn ff_check(profile: u64, list: &[u64], forecast: &[u64]) -> u64
-    ensures { λ r. ⌜ Gives (calls.check profile (now (list .entry)) (now (forecast .entry))) r [] ⌝ }
+pub extern "C" fn ff_check(profile: u64, list: &[u64], table: &[usize], forecast: &[u64]) -> u64
+    ensures { λ r. ⌜ Gives (calls.check profile (now (list .entry)) (now (table .entry)) (now (forecast .entry))) r [] ⌝ }
 {
     if replies::sizes::no_forecast(forecast.len()) {
         return MISFIT;
     }
-    stated::check(profile, list, forecast)
+    stated::check(profile, list, table, forecast)
 }
 
 // Whether a key is live, and where.
 #[no_mangle]
-pub extern "C" fn ff_lookup(profile: u64, list: &[u64], key: u64, reply: &mut [u64]) -> u64
-    ensures { λ r. ⌜ Gives (calls.lookup profile (now (list .entry)) key (now (reply .entry))) r (now (reply .exit) ∷ []) ⌝ }
+pub extern "C" fn ff_lookup(
+    profile: u64,
+    list: &[u64],
+    table: &[usize],
+    key: u64,
+    reply: &mut [u64],
+) -> u64
+    ensures { λ r. ⌜ Gives (calls.lookup profile (now (list .entry)) (now (table .entry)) key (now (reply .entry))) r (now (reply .exit) ∷ []) ⌝ }
 {
     if reply.len() < 2 {
         return MISFIT;
     }
-    stated::lookup(profile, list, key, reply)
+    stated::lookup(profile, list, table, key, reply)
 }
 
 // The live keys above `from`, rising.
@@ -42,14 +53,15 @@ pub extern "C" fn ff_lookup(profile: u64, list: &[u64], key: u64, reply: &mut [u
 pub extern "C" fn ff_scan(
     profile: u64,
     list: &[u64],
+    table: &[usize],
     from: u64,
     output: &mut [u64],
     reply: &mut [u64],
 ) -> u64
-    ensures { λ r. ⌜ Gives (calls.scan profile (now (list .entry)) from (now (output .entry)) (now (reply .entry))) r (now (output .exit) ∷ now (reply .exit) ∷ []) ⌝ }
+    ensures { λ r. ⌜ Gives (calls.scan profile (now (list .entry)) (now (table .entry)) from (now (output .entry)) (now (reply .entry))) r (now (output .exit) ∷ now (reply .exit) ∷ []) ⌝ }
 {
     if reply.len() < 2 {
         return MISFIT;
     }
-    stated::scan(profile, list, from, output, reply)
+    stated::scan(profile, list, table, from, output, reply)
 }

@@ -9,16 +9,17 @@ use crate::MISFIT;
 pub extern "C" fn ff_insert(
     profile: u64,
     list: &mut [u64],
+    table: &mut [usize],
     forecast: &mut [u64],
     key: u64,
     reply: &mut [u64],
 ) -> u64
-    ensures { λ r. ⌜ Gives (calls.insert profile (now (list .entry)) (now (forecast .entry)) key (now (reply .entry))) r (now (list .exit) ∷ now (forecast .exit) ∷ now (reply .exit) ∷ []) ⌝ }
+    ensures { λ r. ⌜ Gives (calls.insert profile (now (list .entry)) (now (table .entry)) (now (forecast .entry)) key (now (reply .entry))) r (now (list .exit) ∷ now (table .exit) ∷ now (forecast .exit) ∷ now (reply .exit) ∷ []) ⌝ }
 {
     if replies::sizes::misfits(forecast.len(), reply.len(), 1) {
         return MISFIT;
     }
-    worded::insert(profile, list, forecast, key, reply)
+    worded::insert(profile, list, table, forecast, key, reply)
 }
 
 // Takes a live key out.
@@ -26,14 +27,15 @@ pub extern "C" fn ff_insert(
 pub extern "C" fn ff_delete(
     profile: u64,
     list: &mut [u64],
+    table: &mut [usize],
     forecast: &mut [u64],
     key: u64,
     reply: &mut [u64],
 ) -> u64
-    ensures { λ r. ⌜ Gives (calls.delete profile (now (list .entry)) (now (forecast .entry)) key (now (reply .entry))) r (now (list .exit) ∷ now (forecast .exit) ∷ now (reply .exit) ∷ []) ⌝ }
+    ensures { λ r. ⌜ Gives (calls.delete profile (now (list .entry)) (now (table .entry)) (now (forecast .entry)) key (now (reply .entry))) r (now (list .exit) ∷ now (table .exit) ∷ now (forecast .exit) ∷ now (reply .exit) ∷ []) ⌝ }
 {
     if replies::sizes::misfits(forecast.len(), reply.len(), 2) {
         return MISFIT;
     }
-    worded::delete(profile, list, forecast, key, reply)
+    worded::delete(profile, list, table, forecast, key, reply)
 }

@@ -9,16 +9,26 @@ use crate::MISFIT;
 pub extern "C" fn ff_run(
     profile: u64,
     list: &mut [u64],
+    table: &mut [usize],
     forecast: &mut [u64],
     requests: &[u8],
     allowance: u64,
     totals: &mut [u32],
     reply: &mut [u64],
 ) -> u64
-    ensures { λ r. ⌜ Gives (calls.run profile (now (list .entry)) (now (forecast .entry)) (now (requests .entry)) allowance (now (totals .entry)) (now (reply .entry))) r (now (list .exit) ∷ now (forecast .exit) ∷ now (totals .exit) ∷ now (reply .exit) ∷ []) ⌝ }
+    ensures { λ r. ⌜ Gives (calls.run profile (now (list .entry)) (now (table .entry)) (now (forecast .entry)) (now (requests .entry)) allowance (now (totals .entry)) (now (reply .entry))) r (now (list .exit) ∷ now (table .exit) ∷ now (forecast .exit) ∷ now (totals .exit) ∷ now (reply .exit) ∷ []) ⌝ }
 {
     if replies::sizes::run_misfits(forecast.len(), totals.len(), reply.len()) {
         return MISFIT;
     }
-    worded::run(profile, list, forecast, requests, allowance, totals, reply)
+    worded::run(
+        profile,
+        list,
+        table,
+        forecast,
+        requests,
+        allowance,
+        totals,
+        reply,
+    )
 }

@@ -1,7 +1,6 @@
 -- The answer of a single insert or delete by its verdict.
 use mathlib.Core.Path.{_≡_, refl, sym, ap, _∙_}
 use mathlib.Core.Bool.{Bool, false, not}
-use mathlib.Core.List.{List}
 use Prim.Native.Nat.{ℕ}
 use native.Mathlib.Omega.{arith}
 use lib.Dec.{eqb}
@@ -13,29 +12,30 @@ use Rattle.rules.specs.declared.Request.{Request}
 use Rattle.rules.specs.declared.Request.the-variants.{Insert}
 use Rattle.rules.specs.Refusals.{refusalNumber, verdictNumber}
 use Rattle.rules.specs.Placing.{Answer, refused}
+use Rattle.rules.specs.Lent.{Lent}
 use Rattle.rules.specs.Checks.{sharesOf, check}
 use Rattle.rules.specs.Calls.{roomOf, Called, request}
 use Rattle.rules.proofs.Refusals.Refused.{request-refused}
 use Rattle.rules.proofs.Refusals.Told.{refusal-some}
-use Rattle.rules.proofs.Requests.SingleCalls.{lent}
+use Rattle.rules.proofs.Requests.SingleCalls.{lentOutcome}
 use Rattle.asking.specs.declared.Reply.{Reply}
 use Rattle.asking.specs.Requested.{Requested}
 use Rattle.asking.proofs.OneRecord.{outcome-dense}
 
 -- AN INSERT never tells sparse
-pub insert-dense : (profile : ℕ) (slots : List ℕ) (F : Forecast) (y : ℕ) → request profile (Insert y) slots F .answer .sparse ≡ false
+pub insert-dense : (profile : ℕ) (L : Lent) (F : Forecast) (y : ℕ) → request profile (Insert y) L F .answer .sparse ≡ false
 unfolding request
-insert-dense profile slots F y =
-    either (λ (d : Called). d .answer .sparse ≡ false) (not (eqb (check profile slots F) 0)) refl
-    (either (λ (d : Called). d .answer .sparse ≡ false) (not (eqb (lent profile (Insert y) slots F .answer .number) 0)) refl (outcome-dense (sharesOf profile slots) y (roomOf slots F)))
+insert-dense profile L F y =
+    either (λ (d : Called). d .answer .sparse ≡ false) (not (eqb (check profile L F) 0)) refl
+    (either (λ (d : Called). d .answer .sparse ≡ false) (not (eqb (lentOutcome profile (Insert y) (L .slots) F .answer .number) 0)) refl (outcome-dense (sharesOf profile (L .slots)) y (roomOf (L .slots) F)))
 
 -- THE ANSWER: where it refuses, the number alone
-module _ (profile : ℕ) (q : Request) (slots : List ℕ) (F : Forecast) (r : Reply) (rest : List ℕ) (c : Requested profile q slots F r rest) where
-  pub answer-refused : (x : Refusal) → r .verdict ≡ Refused x → refused (refusalNumber x) ≡ request profile q slots F .answer
+module _ (profile : ℕ) (q : Request) (L : Lent) (F : Forecast) (r : Reply) (left : Lent) (c : Requested profile q L F r left) where
+  pub answer-refused : (x : Refusal) → r .verdict ≡ Refused x → refused (refusalNumber x) ≡ request profile q L F .answer
   answer-refused x v =
-      let n : request profile q slots F .answer .number ≡ refusalNumber x = sym (ap (λ (d : Answer). d .number) (c .answer)) ∙ ap verdictNumber v in
-      ap refused (sym n) ∙ sym (ap (λ (d : Called). d .answer) (request-refused profile q slots F (omega (arith, refusal-some x))))
+      let n : request profile q L F .answer .number ≡ refusalNumber x = sym (ap (λ (d : Answer). d .number) (c .answer)) ∙ ap verdictNumber v in
+      ap refused (sym n) ∙ sym (ap (λ (d : Called). d .answer) (request-refused profile q L F (omega (arith, refusal-some x))))
 
   -- where it accepts, the moves, and whether the list is sparse
-  pub answer-done : (b : Bool) → r .verdict ≡ Accepted → r .sparse ≡ b → record { number = 0; moves = r .moves; sparse = b } ≡ request profile q slots F .answer
+  pub answer-done : (b : Bool) → r .verdict ≡ Accepted → r .sparse ≡ b → record { number = 0; moves = r .moves; sparse = b } ≡ request profile q L F .answer
   answer-done b v p = _∙_ {A = Answer} (λ i. record { number = ap verdictNumber (sym v) i; moves = r .moves; sparse = sym p i }) (c .answer)

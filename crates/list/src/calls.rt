@@ -1,4 +1,8 @@
 // The public calls that change no list: make, check, lookup and scan. They ask nothing of what they are lent.
+ghost use mathlib.Core.Path.{_≡_};
+ghost use mathlib.Core.List.{[]};
+ghost use Rattle.forecast.specs.Cells.{forecastOf};
+ghost use Rattle.rules.specs.Lent.{lend};
 ghost use Rattle.answers.specs.Admits.{MakeAdmits, CheckAdmits, LookupAdmits, ScanAdmits};
 use answers::CheckAnswer;
 use answers::LookupAnswer;
@@ -9,37 +13,38 @@ use forecast::Forecast;
 use rules::Refusal;
 use rules::Verdict;
 
-// Writes 0 in every slot and gives an empty forecast.
-pub fn make(profile: u64, list: &mut [u64]) -> MakeReply
-    ensures { λ r. ⌜ MakeAdmits profile (now (list .entry)) r (now (list .exit)) ⌝ }
+// What a make answers, with an empty forecast.
+fn told(answer: MakeAnswer) -> MakeReply
+    ensures { λ r. ⌜ r ≡ record { forecast = forecastOf []; answer = answer } ⌝ }
 {
     let forecast = Forecast::empty();
-    if !shares::is_profile(profile) {
-        return MakeReply {
-            forecast,
-            answer: MakeAnswer::Refused(Refusal::UnknownProfile),
-        };
-    }
-    if places::heights::height_of(list.len()) == 0 {
-        return MakeReply {
-            forecast,
-            answer: MakeAnswer::Refused(Refusal::WrongLength),
-        };
-    }
-    let n = list.len();
-    moves::clear(list, 0, n);
-    MakeReply {
-        forecast,
-        answer: MakeAnswer::Made,
-    }
+    MakeReply { forecast, answer }
 }
 
-// Tests refusals 15 and 1 to 4 and changes nothing.
-pub fn check(profile: u64, list: &[u64], forecast: Forecast) -> CheckAnswer
-    ensures { λ r. ⌜ CheckAdmits profile (now (list .entry)) forecast r ⌝ }
+// Writes 0 in every slot and every entry of the table and gives an empty forecast.
+pub fn make(profile: u64, list: &mut [u64], table: &mut [usize]) -> MakeReply
+    ensures { λ r. ⌜ MakeAdmits profile (lend (now (list .entry)) (now (table .entry))) r (lend (now (list .exit)) (now (table .exit))) ⌝ }
 {
-    let mut counts: [usize; 64] = [0; 64];
-    let verdict = checks::look_over_both(profile, list, forecast, &mut counts).verdict;
+    if !shares::is_profile(profile) {
+        return told(MakeAnswer::Refused(Refusal::UnknownProfile));
+    }
+    let n = list.len();
+    if places::heights::height_of(n) == 0 {
+        return told(MakeAnswer::Refused(Refusal::WrongLength));
+    }
+    if table.len() != n / 32 - 1 {
+        return told(MakeAnswer::Refused(Refusal::WrongTable));
+    }
+    moves::clear(list, 0, n);
+    tables::keeping::clear(table);
+    told(MakeAnswer::Made)
+}
+
+// Tests refusals 15, 1 to 4 and 14 and changes nothing.
+pub fn check(profile: u64, list: &[u64], table: &[usize], forecast: Forecast) -> CheckAnswer
+    ensures { λ r. ⌜ CheckAdmits profile (lend (now (list .entry)) (now (table .entry))) forecast r ⌝ }
+{
+    let verdict = checks::look_lent(profile, list, table, forecast).verdict;
     match verdict {
         Verdict::Refused(refusal) => CheckAnswer::Refused(refusal),
         Verdict::Accepted => CheckAnswer::Passed,
@@ -47,25 +52,29 @@ pub fn check(profile: u64, list: &[u64], forecast: Forecast) -> CheckAnswer
 }
 
 // Whether a key is live, and where.
-pub fn lookup(profile: u64, list: &[u64], key: u64) -> LookupAnswer
-    ensures { λ r. ⌜ LookupAdmits profile (now (list .entry)) key r ⌝ }
+pub fn lookup(profile: u64, list: &[u64], table: &[usize], key: u64) -> LookupAnswer
+    ensures { λ r. ⌜ LookupAdmits profile (lend (now (list .entry)) (now (table .entry))) key r ⌝ }
 {
-    let mut counts: [usize; 64] = [0; 64];
-    let verdict = checks::look_over(profile, list, &mut counts).verdict;
+    let verdict = checks::look_read(profile, list, table).verdict;
     if let Verdict::Refused(refusal) = verdict {
         return LookupAnswer::Refused(refusal);
     }
-    looks::look_up(list, key)
+    looks::look_up(list, table, key)
 }
 
 // The live keys above `from`, rising, into `output` until it is full or they end.
-pub fn scan(profile: u64, list: &[u64], from: u64, output: &mut [u64]) -> ScanAnswer
-    ensures { λ r. ⌜ ScanAdmits profile (now (list .entry)) from (now (output .entry)) r (now (output .exit)) ⌝ }
+pub fn scan(
+    profile: u64,
+    list: &[u64],
+    table: &[usize],
+    from: u64,
+    output: &mut [u64],
+) -> ScanAnswer
+    ensures { λ r. ⌜ ScanAdmits profile (lend (now (list .entry)) (now (table .entry))) from (now (output .entry)) r (now (output .exit)) ⌝ }
 {
-    let mut counts: [usize; 64] = [0; 64];
-    let verdict = checks::look_over(profile, list, &mut counts).verdict;
+    let verdict = checks::look_read(profile, list, table).verdict;
     if let Verdict::Refused(refusal) = verdict {
         return ScanAnswer::Refused(refusal);
     }
-    looks::scan_from(list, &counts, from, output)
+    looks::scan_from(list, table, from, output)
 }

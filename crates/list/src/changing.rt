@@ -1,4 +1,5 @@
 // The public calls that change a list: insert and delete. They ask nothing of what they are lent.
+ghost use Rattle.rules.specs.Lent.{lend};
 ghost use Rattle.answers.specs.Admits.{InsertAdmits, DeleteAdmits};
 use answers::DeleteAnswer;
 use answers::DeleteReply;
@@ -8,10 +9,16 @@ use forecast::Forecast;
 use rules::Verdict;
 
 // Puts a new key in.
-pub fn insert(profile: u64, list: &mut [u64], forecast: Forecast, key: u64) -> InsertReply
-    ensures { λ r. ⌜ InsertAdmits profile (now (list .entry)) forecast key r (now (list .exit)) ⌝ }
+pub fn insert(
+    profile: u64,
+    list: &mut [u64],
+    table: &mut [usize],
+    forecast: Forecast,
+    key: u64,
+) -> InsertReply
+    ensures { λ r. ⌜ InsertAdmits profile (lend (now (list .entry)) (now (table .entry))) forecast key r (lend (now (list .exit)) (now (table .exit))) ⌝ }
 {
-    let reply = asking::ask(profile, list, forecast, true, key);
+    let reply = asking::ask(profile, list, table, forecast, true, key);
     let verdict = reply.verdict;
     let after = reply.forecast;
     if let Verdict::Refused(refusal) = verdict {
@@ -27,10 +34,16 @@ pub fn insert(profile: u64, list: &mut [u64], forecast: Forecast, key: u64) -> I
 }
 
 // Takes a live key out.
-pub fn delete(profile: u64, list: &mut [u64], forecast: Forecast, key: u64) -> DeleteReply
-    ensures { λ r. ⌜ DeleteAdmits profile (now (list .entry)) forecast key r (now (list .exit)) ⌝ }
+pub fn delete(
+    profile: u64,
+    list: &mut [u64],
+    table: &mut [usize],
+    forecast: Forecast,
+    key: u64,
+) -> DeleteReply
+    ensures { λ r. ⌜ DeleteAdmits profile (lend (now (list .entry)) (now (table .entry))) forecast key r (lend (now (list .exit)) (now (table .exit))) ⌝ }
 {
-    let reply = asking::ask(profile, list, forecast, false, key);
+    let reply = asking::ask(profile, list, table, forecast, false, key);
     let verdict = reply.verdict;
     let after = reply.forecast;
     let moves = reply.moves;

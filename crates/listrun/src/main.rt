@@ -34,29 +34,34 @@ fn main() {
     let mut input = io::large_buffer();
     let n = io::read_full(0, &mut input);
     let mut slots = [0u64; 256];
-    let made = list::calls::make(1, &mut slots);
+    let mut table = [0usize; 7];
+    let made = list::calls::make(1, &mut slots, &mut table);
     let totals = Totals {
         worked: 0,
         refused: 0,
         moved: 0,
         sweeps: 0,
     };
-    let done = run::running::run_with(1, &mut slots, made.forecast, &input[..n], 1000000, totals);
+    let done = run::running::run_with(
+        1,
+        &mut slots,
+        &mut table,
+        made.forecast,
+        &input[..n],
+        1000000,
+        totals,
+    );
     let reply = done.reply;
     let tally = reply.tally;
     let stop = reply.stop;
-    let a = places::counting::count_keys(&slots[0..64]);
-    let b = places::counting::count_keys(&slots[64..128]);
-    let c = places::counting::count_keys(&slots[128..192]);
-    let d = places::counting::count_keys(&slots[192..256]);
     counts(
-        (a + b + c + d) as u64,
+        table[6] as u64,
         tally.moves,
         tally.sweeps as u64,
         words::numbers::verdict_number(stop),
     );
-    segment(0, a);
-    segment(1, b);
-    segment(2, c);
-    segment(3, d);
+    segment(0, table[0]);
+    segment(1, table[1]);
+    segment(2, table[2]);
+    segment(3, table[3]);
 }

@@ -2,7 +2,7 @@
 use mathlib.Core.Path.{_≡_, sym, ap, ap₂, _∙_, subst}
 use mathlib.Core.Bool.{Bool, true, false, not}
 use mathlib.Core.List.{List, [], _++_, List·Memᴰ as Mem}
-use Prim.Native.Nat.{ℕ, suc, _+_, _*_, _/_, _≤_, _<_}
+use Prim.Native.Nat.{ℕ, suc, _+_, _<_}
 use native.Mathlib.Numerals.{add-one}
 use native.Mathlib.Omega.{arith}
 use lib.Dec.{T, ltb}
@@ -10,15 +10,16 @@ use lib.ListN.{length, take, drop, getD}
 use Rattle.slots.specs.declared.Place.{Place}
 use Rattle.slots.specs.Segments.{Segments, keys, segmentsOf}
 use Rattle.slots.specs.Keys.{Rising, Listed, member, above}
-use Rattle.slots.specs.Shown.{Shows, seat, Located, CountsOf}
+use Rattle.slots.specs.Shown.{seat, Located}
 use Rattle.slots.proofs.Rising.{above-parts}
 use Rattle.slots.proofs.Keys.{Between, member→mem, keys-parts, rising-part}
 use Rattle.slots.proofs.ByPlace.{place-old, drop-new, drop-old}
-use Rattle.slots.proofs.Tallies.{shown-within, shown-few}
 use Rattle.slots.proofs.Seats.{seat-between, seat-member}
-use Rattle.rules.specs.Checks.{checkList}
+use Rattle.rules.specs.Lent.{Lent}
+use Rattle.rules.specs.Checks.{checkRead}
 use Rattle.rules.specs.Looking.{Scanned, scanned}
 use Rattle.rules.proofs.Requests.Shown.{shows-passed}
+use Rattle.rules.proofs.Requests.Tabled.{read-passed}
 use Rattle.rules.proofs.Refusals.CheckCases.{scan-passed}
 use Rattle.rules.proofs.Sets.SetLaws.{above-beyond}
 use Rattle.rules.proofs.Sets.SetScan.{scanned-more}
@@ -75,31 +76,24 @@ module _ (y : ℕ) (ss : Segments) (listed : Listed ss) (some : 0 < length ss) w
         let m : Mem y there = member→mem y there (rw (told-there, p) tt) in
         omega (arith, place-old y there rises m, l .at, l .held)
 
--- BY THE COUNTS of the segments: 64 at most
-pub few-counted : (profile : ℕ) (slots counts : List ℕ) → checkList profile slots ≡ 0 → CountsOf (segmentsOf slots) counts → (k : ℕ) → k < length slots / 64 → getD counts k 0 ≤ 64
-few-counted profile slots counts e c k h =
-    let sh : Shows (segmentsOf slots) slots = shows-passed profile slots e in
-    let n : 64 * k + 64 ≤ length slots = omega arith in
-    omega (arith, c k (shown-within (segmentsOf slots) slots sh k n), shown-few (segmentsOf slots) slots sh k n)
-
 -- WHAT A SCAN GIVES: an answer that tells what was written
 pub record Tells (d : Written) (r : ScanAnswer) : Type 0 where
   pub number : scanPaper r .number ≡ 0
   pub written : scanPaper r .written ≡ d .keys
   pub more : scanPaper r .more ≡ d .more
 
-pub wrote-admits : (profile : ℕ) (slots : List ℕ) (a : ℕ) (out ks : List ℕ) (d : Written) (r : ScanAnswer) (left : List ℕ) → checkList profile slots ≡ 0 → above a (keys (segmentsOf slots)) ≡ ks
-    → Wrote ks out d left → Tells d r → ScanAdmits profile slots a out r left
+pub wrote-admits : (profile : ℕ) (L : Lent) (a : ℕ) (out ks : List ℕ) (d : Written) (r : ScanAnswer) (left : List ℕ) → checkRead profile L ≡ 0 → above a (keys (segmentsOf (L .slots))) ≡ ks
+    → Wrote ks out d left → Tells d r → ScanAdmits profile L a out r left
 unfolding scanned
-wrote-admits profile slots a out ks d r left e q v t =
-    let p = scan-passed profile slots a out e in
-    let ss : Segments = segmentsOf slots in
+wrote-admits profile L a out ks d r left e q v t =
+    let p = scan-passed profile L a out e in
+    let ss : Segments = segmentsOf (L .slots) in
     let w : Wrote (above a (keys ss)) out d left = subst (λ (l : List ℕ). Wrote l out d left) (sym q) v in
     record {
       number = t .number ∙ sym (ap (λ (s : Scanned). s .number) p);
       written = t .written ∙ w .written ∙ sym (ap (λ (s : Scanned). s .written) p);
       more =
-          t .more ∙ w .more ∙ ap {B = Bool} (λ f. ltb (length (take (length out) f)) (length f)) (above-beyond a (keys ss)) ∙ sym (scanned-more a ss out (shows-passed profile slots e .listed .rising))
+          t .more ∙ w .more ∙ ap {B = Bool} (λ f. ltb (length (take (length out) f)) (length f)) (above-beyond a (keys ss)) ∙ sym (scanned-more a ss out (shows-passed profile (L .slots) (read-passed profile L e .0) .listed .rising))
           ∙ sym (ap (λ (s : Scanned). s .more) p);
       output = w .output ∙ sym (ap (λ (s : Scanned). s .output) p);
     }

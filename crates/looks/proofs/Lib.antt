@@ -1,1 +1,3 @@
 pub mod KeysAbove
+pub mod Passed
+pub mod Pasts

@@ -1,41 +1,59 @@
-// Lookup and scan on a list that has passed its check, whatever the profile, as code.
+// Lookup and scan on a list and a table that have passed their check, whatever the profile, as code.
 ghost use mathlib.Core.Path.{_≡_};
-ghost use Prim.Native.Nat.{ℕ, _/_, _≤_};
+ghost use mathlib.Core.List.{List};
+ghost use Prim.Native.Nat.{ℕ, _+_, _*_, _≤_};
 ghost use lib.ListN.{length};
-ghost use Rattle.slots.specs.Segments.{segmentsOf};
-ghost use Rattle.slots.specs.Shown.{CountsOf};
-ghost use Rattle.rules.specs.Checks.{checkList};
+ghost use Rattle.slots.specs.Segments.{Segments};
+ghost use Rattle.slots.specs.Shown.{seat};
+ghost use Rattle.seats.specs.Bounds.{Indexed};
+ghost use Rattle.rules.specs.Lent.{lend};
+ghost use Rattle.rules.specs.Checks.{checkRead};
 ghost use Rattle.answers.specs.Admits.{LookupAdmits, ScanAdmits};
+ghost use Rattle.looks.specs.Past.{Past};
 use answers::LookupAnswer;
 use answers::ScanAnswer;
 use rules::Refusal;
 
 // Whether a key is live, and where.
-pub fn look_up(list: &[u64], key: u64) -> LookupAnswer
-    requires { ⌜ ((profile : ℕ) × (checkList profile (now list) ≡ 0)) ⌝ }
-    ensures { λ r. ⌜ ((profile : ℕ) → checkList profile (now (list .entry)) ≡ 0 → LookupAdmits profile (now (list .entry)) key r) ⌝ }
+pub fn look_up(list: &[u64], table: &[usize], key: u64) -> LookupAnswer
+    requires { ⌜ ((profile : ℕ) × (checkRead profile (lend (now list) (now table)) ≡ 0)) ⌝ }
+    ensures { λ r. ⌜ ((profile : ℕ) → checkRead profile (lend (now (list .entry)) (now (table .entry))) ≡ 0 → LookupAdmits profile (lend (now (list .entry)) (now (table .entry))) key r) ⌝ }
 {
     if key == 0 {
         return LookupAnswer::Refused(Refusal::KeyZero);
     }
-    let place = places::finding::locate(list, key);
-    if place.present {
-        return LookupAnswer::Present(place.segment);
+    let segment = tables::descending::seek(table, list, list.len() / 64, key);
+    let place = seeking::finding::place_in(list, 64 * segment, key);
+    if list[place] == key {
+        return LookupAnswer::Present(segment);
     }
     LookupAnswer::Absent
 }
 
-// The live keys above `from`, rising, into `output` until it is full or they end, by the counts of the list's segments.
-pub fn scan_from(list: &[u64], counts: &[usize], from: u64, output: &mut [u64]) -> ScanAnswer
-    requires { ⌜ ((profile : ℕ) × (checkList profile (now list) ≡ 0)) × (length (now list) / 64 ≤ length (now counts)) × CountsOf (segmentsOf (now list)) (now counts) ⌝ }
-    ensures { λ r. ⌜ ((profile : ℕ) → checkList profile (now (list .entry)) ≡ 0 → ScanAdmits profile (now (list .entry)) from (now (output .entry)) r (now (output .exit))) ⌝ }
+// How many keys of the segment where a search for `from` ends are not above it.
+fn past(list: &[u64], segment: usize, from: u64) -> usize
+    requires { ⌜ 64 * segment + 64 ≤ length (now list) ⌝ }
+    ensures { λ r. ⌜ ((ss : Segments) (bounds table : List ℕ) → Indexed ss (now (list .entry)) bounds table → segment ≡ seat from ss → Past from ss segment r) ⌝ }
 {
-    let place = places::finding::locate(list, from);
-    let mut at = place.at;
-    if place.present {
-        at += 1;
+    let place = seeking::finding::place_in(list, 64 * segment, from);
+    let found = list[place];
+    if found == 0 {
+        return 0;
     }
-    let written = scans::write_keys(list, counts, place.segment, at, output);
+    if from < found {
+        return 0;
+    }
+    place - 64 * segment + 1
+}
+
+// The live keys above `from`, rising, into `output` until it is full or they end, by the table.
+pub fn scan_from(list: &[u64], table: &[usize], from: u64, output: &mut [u64]) -> ScanAnswer
+    requires { ⌜ ((profile : ℕ) × (checkRead profile (lend (now list) (now table)) ≡ 0)) ⌝ }
+    ensures { λ r. ⌜ ((profile : ℕ) → checkRead profile (lend (now (list .entry)) (now (table .entry))) ≡ 0 → ScanAdmits profile (lend (now (list .entry)) (now (table .entry))) from (now (output .entry)) r (now (output .exit))) ⌝ }
+{
+    let segment = tables::descending::seek(table, list, list.len() / 64, from);
+    let at = past(list, segment, from);
+    let written = scans::write_keys(list, table, segment, at, output);
     if written.more {
         return ScanAnswer::More(written.keys);
     }

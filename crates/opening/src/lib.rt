@@ -1,22 +1,23 @@
 // Records worked on anything that is lent: the check once, then the records in order.
+ghost use Rattle.rules.specs.Lent.{lend};
 ghost use Rattle.opening.specs.Opens.{Opens};
 use forecast::Forecast;
 use rules::Verdict;
 use steps::Worked;
 
-// The check; where it accepts, the counts and bounds of the segments, a buffer for plans, and the records within an allowance of moves.
-// Where it refuses, that stops them and nothing else has happened.
+// The check; where it accepts, the bounds of the segments, a buffer for plans, and the records within an allowance of moves. Where it
+// refuses, that stops them and nothing else has happened.
 pub fn work_lent(
     profile: u64,
     list: &mut [u64],
+    table: &mut [usize],
     forecast: Forecast,
     requests: &[u8],
     allowance: u64,
 ) -> Worked
-    ensures { λ r. ⌜ Opens profile (now (list .entry)) forecast (now (requests .entry)) allowance r (now (list .exit)) ⌝ }
+    ensures { λ r. ⌜ Opens profile (lend (now (list .entry)) (now (table .entry))) forecast (now (requests .entry)) allowance r (lend (now (list .exit)) (now (table .exit))) ⌝ }
 {
-    let mut counts: [usize; 64] = [0; 64];
-    let listing = checks::look_over_both(profile, list, forecast, &mut counts);
+    let listing = checks::look_lent(profile, list, table, forecast);
     let verdict = listing.verdict;
     if let Verdict::Refused(_) = verdict {
         return Worked {
@@ -34,7 +35,7 @@ pub fn work_lent(
     let mut plan: [usize; 64] = [0; 64];
     steps::working::work(
         list,
-        &mut counts,
+        table,
         &mut bounds,
         &mut plan,
         forecast,

@@ -3,3 +3,4 @@ pub mod Sums
 pub mod OwnCases
 pub mod SecondCases
 pub mod RefusalCases
+pub mod TableCases

@@ -1,5 +1,6 @@
 -- All that the demands say, proved.
 use Rattle.rules.specs.Demands.{Demands}
+use Rattle.levels.proofs.Tables.{table-long, table-entry}
 use Rattle.rules.proofs.Refusals.Numbers.{make-tells, check-tells, check-passes, lookup-tells, scan-tells, insert-tells, delete-tells}
 use Rattle.rules.proofs.Refusals.Refused.{request-refused, lookup-refused, scan-refused, make-refused}
 use Rattle.rules.proofs.Running.Runs.{run-refused, run-stops}
@@ -48,6 +49,7 @@ demands = record {
   sequence-ruled = sequence-ruled;
   table = table;
   lawful = lawful;
+  counts-are = λ h ss e. (table-long h ss e, table-entry h ss e);
   split-is = split-is;
   no-zero = no-zero;
   climb-is = climb-is;

@@ -4,5 +4,6 @@ pub mod Refused
 pub mod RowsInOrder
 pub mod Rows
 pub mod Row4
+pub mod Row14
 pub mod Numbers
 pub mod Told

@@ -4,6 +4,7 @@ pub mod Moved
 pub mod KeysKept
 pub mod StaysGood
 pub mod Checked
+pub mod Tabled
 pub mod Shown
 pub mod SingleCalls
 pub mod MadeEmpty

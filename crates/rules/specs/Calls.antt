@@ -1,4 +1,4 @@
--- The public calls, on the profile's number and slots, forecast, output, bytes and totals as they are lent: what each answers and leaves.
+-- The public calls, on the profile's number and slots, table, forecast, output, bytes and totals as they are lent: what each answers and leaves.
 -- (check stands in Checks.)
 use Prim.Native.Nat.{ℕ}
 use mathlib.Core.Bool.{false, not}
@@ -7,6 +7,7 @@ use lib.Dec.{eqb}
 use lib.ListN.{length, replicate}
 use Rattle.lists.specs.Choice.{if_then_else_}
 use Rattle.slots.specs.Segments.{heightOf, segmentsOf, render}
+use Rattle.levels.specs.Tables.{tableSize}
 use Rattle.forecast.specs.declared.Forecast.{Forecast}
 use Rattle.forecast.specs.Cells.{usedCells, forecastOf}
 use Rattle.rules.specs.declared.Request.{Request}
@@ -16,60 +17,66 @@ use Rattle.rules.specs.declared.Totals.{Totals}
 use Rattle.rules.specs.Profiles.{isProfile}
 use Rattle.rules.specs.Placing.{Room, Answer, Outcome, refused, outcome}
 use Rattle.rules.specs.Looking.{Found, notFound, lookedUp, Scanned, scanned}
-use Rattle.rules.specs.Checks.{sharesOf, checkList, check}
+use Rattle.rules.specs.Lent.{Lent, lend, tabled}
+use Rattle.rules.specs.Checks.{sharesOf, checkRead, check}
 use Rattle.rules.specs.Runs.{nothing, Ran, ran, added}
 
 -- What slots and forecast show, and the slots and the forecast that show it.
 abbrev pub roomOf : List ℕ → Forecast → Room
 roomOf slots F = record { segments = segmentsOf slots; cells = usedCells F }
 
--- Making empty writes 0 in every slot, gives an empty forecast, and refuses only by 15 and 1; the forecast it gives is empty then too.
+-- Making empty writes 0 in every slot and every entry, gives an empty forecast, and refuses only by 15, 1 and 14, for the table's length; the
+-- forecast it gives is empty then too.
 pub record Made : Type 0 where
-  pub slots : List ℕ
+  pub lent : Lent
   pub forecast : Forecast
   pub number : ℕ
 
-unfoldable pub make : ℕ → List ℕ → Made
-make profile slots =
-    if not (isProfile profile) then record { slots = slots; forecast = forecastOf []; number = 15 }
-    else if eqb (heightOf (length slots)) 0 then record { slots = slots; forecast = forecastOf []; number = 1 }
-    else record { slots = replicate (length slots) 0; forecast = forecastOf []; number = 0 }
+abbrev pub notMade : Lent → ℕ → Made
+notMade L n = record { lent = L; forecast = forecastOf []; number = n }
 
--- Lookup and scan take no forecast and test 15 and 1 to 3; a scan never gives 5.
-unfoldable pub lookup : ℕ → List ℕ → ℕ → Found
-lookup profile slots y =
-    if not (eqb (checkList profile slots) 0) then notFound (checkList profile slots) else lookedUp y (segmentsOf slots)
+unfoldable pub make : ℕ → Lent → Made
+make profile L =
+    if not (isProfile profile) then notMade L 15
+    else if eqb (heightOf (length (L .slots))) 0 then notMade L 1
+    else if not (eqb (length (L .table)) (tableSize (heightOf (length (L .slots))))) then notMade L 14
+    else record { lent = lend (replicate (length (L .slots)) 0) (replicate (length (L .table)) 0); forecast = forecastOf []; number = 0 }
 
-unfoldable pub scan : ℕ → List ℕ → ℕ → List ℕ → Scanned
-scan profile slots a out =
-    if not (eqb (checkList profile slots) 0) then record { number = checkList profile slots; written = 0; more = false; output = out }
-    else scanned a (segmentsOf slots) out
+-- Lookup and scan take no forecast and test 15, 1 to 3 and 14; a scan never gives 5.
+unfoldable pub lookup : ℕ → Lent → ℕ → Found
+lookup profile L y =
+    if not (eqb (checkRead profile L) 0) then notFound (checkRead profile L) else lookedUp y (segmentsOf (L .slots))
 
--- A single insert or delete.
+unfoldable pub scan : ℕ → Lent → ℕ → List ℕ → Scanned
+scan profile L a out =
+    if not (eqb (checkRead profile L) 0) then record { number = checkRead profile L; written = 0; more = false; output = out }
+    else scanned a (segmentsOf (L .slots)) out
+
+-- A single insert or delete. Accepted, it leaves the table right for the slots it leaves.
 pub record Called : Type 0 where
-  pub slots : List ℕ
+  pub lent : Lent
   pub forecast : Forecast
   pub answer : Answer
 
-abbrev pub unchanged : List ℕ → Forecast → ℕ → Called
-unchanged slots F n = record { slots = slots; forecast = F; answer = refused n }
+abbrev pub unchanged : Lent → Forecast → ℕ → Called
+unchanged L F n = record { lent = L; forecast = F; answer = refused n }
 
 abbrev pub changed : Outcome → Called
-changed o = record { slots = render 0 (o .room .segments); forecast = forecastOf (o .room .cells); answer = o .answer }
+changed o = record { lent = tabled (render 0 (o .room .segments)); forecast = forecastOf (o .room .cells); answer = o .answer }
 
-unfoldable pub request : ℕ → Request → List ℕ → Forecast → Called
-request profile q slots F =
-    let n : ℕ = check profile slots F in
-    let o : Outcome = outcome (sharesOf profile slots) q (roomOf slots F) in
-    if not (eqb n 0) then unchanged slots F n
-    else if not (eqb (o .answer .number) 0) then unchanged slots F (o .answer .number)
+unfoldable pub request : ℕ → Request → Lent → Forecast → Called
+request profile q L F =
+    let n : ℕ = check profile L F in
+    let o : Outcome = outcome (sharesOf profile (L .slots)) q (roomOf (L .slots) F) in
+    if not (eqb n 0) then unchanged L F n
+    else if not (eqb (o .answer .number) 0) then unchanged L F (o .answer .number)
     else changed o
 
-abbrev pub insert : ℕ → List ℕ → Forecast → ℕ → Called
-insert profile slots F y = request profile (Insert y) slots F
+abbrev pub insert : ℕ → Lent → Forecast → ℕ → Called
+insert profile L F y = request profile (Insert y) L F
 
-abbrev pub delete : ℕ → List ℕ → Forecast → ℕ → Called
-delete profile slots F y = request profile (Delete y) slots F
+abbrev pub delete : ℕ → Lent → Forecast → ℕ → Called
+delete profile L F y = request profile (Delete y) L F
 
 -- A run tells what it has counted, its byte place among it (where the record that stopped it begins, or the length of the request bytes at the
 -- end), and the stop number, 0 at the end.
@@ -78,15 +85,15 @@ pub record Reply : Type 0 where
   pub stop : ℕ
 
 pub record Worked : Type 0 where
-  pub slots : List ℕ
+  pub lent : Lent
   pub forecast : Forecast
   pub totals : Totals
   pub reply : Reply
 
--- Refusals 15 and 1 to 4 also leave the totals; the place is then 0, as are the other counts.
-abbrev pub stoppedAtOnce : List ℕ → Forecast → Totals → ℕ → Worked
-stoppedAtOnce slots F T n = record {
-  slots = slots;
+-- Refusals 15, 1 to 4 and 14 also leave the totals; the place is then 0, as are the other counts.
+abbrev pub stoppedAtOnce : Lent → Forecast → Totals → ℕ → Worked
+stoppedAtOnce L F T n = record {
+  lent = L;
   forecast = F;
   totals = T;
   reply = record { tally = nothing; stop = n };
@@ -94,14 +101,14 @@ stoppedAtOnce slots F T n = record {
 
 abbrev pub worked : Totals → Ran → Worked
 worked T r = record {
-  slots = render 0 (r .room .segments);
+  lent = tabled (render 0 (r .room .segments));
   forecast = forecastOf (r .room .cells);
   totals = added T (r .tally);
   reply = record { tally = r .tally; stop = r .stop };
 }
 
--- A run checks list and forecast once, then works the records in order.
-unfoldable pub run : ℕ → List ℕ → Forecast → List ℕ → ℕ → Totals → Worked
-run profile slots F bytes allowance T =
-    let r : Ran = ran (sharesOf profile slots) allowance bytes (roomOf slots F) in
-    if not (eqb (check profile slots F) 0) then stoppedAtOnce slots F T (check profile slots F) else worked T r
+-- A run checks list, table and forecast once, then works the records in order.
+unfoldable pub run : ℕ → Lent → Forecast → List ℕ → ℕ → Totals → Worked
+run profile L F bytes allowance T =
+    let r : Ran = ran (sharesOf profile (L .slots)) allowance bytes (roomOf (L .slots) F) in
+    if not (eqb (check profile L F) 0) then stoppedAtOnce L F T (check profile L F) else worked T r

@@ -1,4 +1,4 @@
--- Document 01, "Refusal numbers", 1 to 4, and document 02's 15, which comes first: what a check tests, in order.
+-- Document 01, "Refusal numbers", 1 to 4, and document 02's 15, which comes first, and 14, which comes last: what a check tests, in order.
 use Prim.Native.Nat.{ℕ}
 use mathlib.Core.Bool.{not}
 use mathlib.Core.List.{List}
@@ -7,10 +7,12 @@ use lib.ListN.{length}
 use Rattle.lists.specs.Choice.{if_then_else_}
 use Rattle.slots.specs.Segments.{live, heightOf, segmentsOf}
 use Rattle.slots.specs.Orders.{orderOf, isKept}
+use Rattle.levels.specs.Tables.{same}
 use Rattle.forecast.specs.declared.Forecast.{Forecast}
 use Rattle.forecast.specs.Faults.{faultOf, isSound}
 use Rattle.rules.specs.Profiles.{isProfile, profileOf}
 use Rattle.rules.specs.Shares.{Shares, shares, capacity, cellsOf}
+use Rattle.rules.specs.Lent.{Lent, rightTable}
 
 -- The shares of a list of slots, in the profile of this number.
 abbrev pub sharesOf : ℕ → List ℕ → Shares
@@ -25,9 +27,21 @@ checkList profile slots =
     else if ltb (capacity (sharesOf profile slots)) (length (live slots)) then 3
     else 0
 
--- Check takes the profile's number, list and forecast, tests 15 and 1 to 4, gives 0 when none applies and changes nothing.
-unfoldable pub check : ℕ → List ℕ → Forecast → ℕ
-check profile slots F =
+-- Then 4, on list and forecast.
+unfoldable pub checkBoth : ℕ → List ℕ → Forecast → ℕ
+checkBoth profile slots F =
     if not (eqb (checkList profile slots) 0) then checkList profile slots
     else if not (isSound (faultOf (cellsOf (sharesOf profile slots)) (segmentsOf slots) F)) then 4
     else 0
+
+-- 14 comes last: a table of the wrong length or with a wrong entry. n is the number by the tests before it.
+unfoldable pub thenTable : ℕ → Lent → ℕ
+thenTable n L = if not (eqb n 0) then n else if not (same (L .table) (rightTable (L .slots))) then 14 else 0
+
+-- Lookup and scan take no forecast: they test 15, 1 to 3 and 14.
+unfoldable pub checkRead : ℕ → Lent → ℕ
+checkRead profile L = thenTable (checkList profile (L .slots)) L
+
+-- Check takes the profile's number, list, table and forecast, tests 15, 1 to 4 and 14, gives 0 when none applies and changes nothing.
+unfoldable pub check : ℕ → Lent → Forecast → ℕ
+check profile L F = thenTable (checkBoth profile (L .slots) F) L

@@ -9,6 +9,7 @@ use lib.Dec.{T}
 use lib.ListN.{length, replicate}
 use Rattle.slots.specs.Segments.{live, render}
 use Rattle.slots.specs.Keys.{Rising}
+use Rattle.levels.specs.Tables.{tableOf, tableSize}
 use Rattle.forecast.specs.declared.Forecast.{Forecast}
 use Rattle.forecast.specs.Cells.{forecastOf}
 use Rattle.forecast.specs.Tidy.{Roomy}
@@ -18,7 +19,8 @@ use Rattle.rules.specs.declared.Profile.{Profile}
 use Rattle.rules.specs.Profiles.{numberOf, most, fewest}
 use Rattle.rules.specs.Shares.{Shares, shares}
 use Rattle.rules.specs.Placing.{Room, Outcome, outcome}
-use Rattle.rules.specs.Looking.{Found, Scanned}
+use Rattle.rules.specs.Looking.{Scanned}
+use Rattle.rules.specs.Lent.{Lent}
 use Rattle.rules.specs.Checks.{sharesOf, check}
 use Rattle.rules.specs.Calls.{roomOf, make, lookup, scan, Called, request, insert, delete}
 use Rattle.rules.specs.PlainSet as set
@@ -33,22 +35,22 @@ pub record IsSet : Type 0 where
   pub rising : (a : ℕ) (ks : List ℕ) → Rising ks → Rising (set.beyond a ks)
   pub atMost : (most : ℕ) (asks : List set.Ask) → Rising (set.afterAll most asks []) × (length (set.afterAll most asks []) ≤ most)
 
--- FIRST SENTENCE. The public calls, asked the same in the profile of a number: what they tell, and what they leave of slots and forecast.
+-- FIRST SENTENCE. The public calls, asked the same in the profile of a number: what they tell, and what they leave of list, table and forecast.
 pub record Held : Type 0 where
-  pub slots : List ℕ
+  pub lent : Lent
   pub forecast : Forecast
 
 abbrev pub told : ℕ → set.Ask → Held → set.Told
-told profile (set.Insert y) H = set.Inserted (insert profile (H .slots) (H .forecast) y .answer .number)
-told profile (set.Delete y) H = set.Deleted (delete profile (H .slots) (H .forecast) y .answer .number) (delete profile (H .slots) (H .forecast) y .answer .sparse)
-told profile (set.Lookup y) H = set.Found (lookup profile (H .slots) y .number) (lookup profile (H .slots) y .present)
+told profile (set.Insert y) H = set.Inserted (insert profile (H .lent) (H .forecast) y .answer .number)
+told profile (set.Delete y) H = set.Deleted (delete profile (H .lent) (H .forecast) y .answer .number) (delete profile (H .lent) (H .forecast) y .answer .sparse)
+told profile (set.Lookup y) H = set.Found (lookup profile (H .lent) y .number) (lookup profile (H .lent) y .present)
 told profile (set.Scan a out) H =
-    let r : Scanned = scan profile (H .slots) a out in
+    let r : Scanned = scan profile (H .lent) a out in
     set.Scanned (r .number) (r .written) (r .more) (r .output)
 
 abbrev pub after : ℕ → set.Ask → Held → Held
-after profile (set.Insert y) H = record { slots = insert profile (H .slots) (H .forecast) y .slots; forecast = insert profile (H .slots) (H .forecast) y .forecast }
-after profile (set.Delete y) H = record { slots = delete profile (H .slots) (H .forecast) y .slots; forecast = delete profile (H .slots) (H .forecast) y .forecast }
+after profile (set.Insert y) H = record { lent = insert profile (H .lent) (H .forecast) y .lent; forecast = insert profile (H .lent) (H .forecast) y .forecast }
+after profile (set.Delete y) H = record { lent = delete profile (H .lent) (H .forecast) y .lent; forecast = delete profile (H .lent) (H .forecast) y .forecast }
 after profile (set.Lookup y) H = H
 after profile (set.Scan a out) H = H
 
@@ -60,18 +62,18 @@ abbrev pub afterAll : ℕ → List set.Ask → Held → Held
 afterAll profile [] H = H
 afterAll profile (a ∷ asks) H = afterAll profile asks (after profile a H)
 
-abbrev pub made : ℕ → List ℕ → Held
-made profile slots = record { slots = make profile slots .slots; forecast = make profile slots .forecast }
+abbrev pub made : ℕ → Lent → Held
+made profile L = record { lent = make profile L .lent; forecast = make profile L .forecast }
 
--- In either profile, from make on any array of a permitted length: every answer is the set's, the live keys are the set, and list and
--- forecast pass the check.
+-- In either profile, from make on any array of a permitted length with a table of its size: every answer is the set's, the live keys are the
+-- set, and list, table and forecast pass the check.
 abbrev pub SequenceAnswered : Type 0
-SequenceAnswered = (p : Profile) (h : ℕ) → 1 ≤ h → h ≤ 6 → (slots : List ℕ) → length slots ≡ 64 * 2 ^ h → (asks : List set.Ask)
+SequenceAnswered = (p : Profile) (h : ℕ) → 1 ≤ h → h ≤ 6 → (L : Lent) → length (L .slots) ≡ 64 * 2 ^ h → length (L .table) ≡ tableSize h → (asks : List set.Ask)
     → let n : ℕ = numberOf p in
-    let left : Held = afterAll n asks (made n slots) in
-    (allTold n asks (made n slots) ≡ set.allTold (most p * 2 ^ h) (fewest p * 2 ^ h) asks [])
-    × (live (left .slots) ≡ set.afterAll (most p * 2 ^ h) asks [])
-    × (check n (left .slots) (left .forecast) ≡ 0)
+    let left : Held = afterAll n asks (made n L) in
+    (allTold n asks (made n L) ≡ set.allTold (most p * 2 ^ h) (fewest p * 2 ^ h) asks [])
+    × (live (left .lent .slots) ≡ set.afterAll (most p * 2 ^ h) asks [])
+    × (check n (left .lent) (left .forecast) ≡ 0)
 
 -- SECOND SENTENCE. What the rules alone make of an ask, on a list with its forecast: what is left, and the moves to be reported. They work
 -- requests, inserts and deletes; a lookup or a scan leaves all as it is.
@@ -100,8 +102,8 @@ emptyRoom h = record { segments = replicate (2 ^ h) []; cells = [] }
 
 -- The moves that the public calls report.
 abbrev pub moves : ℕ → set.Ask → Held → ℕ
-moves profile (set.Insert y) H = insert profile (H .slots) (H .forecast) y .answer .moves
-moves profile (set.Delete y) H = delete profile (H .slots) (H .forecast) y .answer .moves
+moves profile (set.Insert y) H = insert profile (H .lent) (H .forecast) y .answer .moves
+moves profile (set.Delete y) H = delete profile (H .lent) (H .forecast) y .answer .moves
 moves profile (set.Lookup y) H = 0
 moves profile (set.Scan a out) H = 0
 
@@ -109,29 +111,31 @@ abbrev pub allMoves : ℕ → List set.Ask → Held → List ℕ
 allMoves profile [] H = []
 allMoves profile (a ∷ asks) H = moves profile a H ∷ allMoves profile asks (after profile a H)
 
--- What a call answers (number, moves, sparse) and leaves is what the rules say.
-pub record AsRuled (c : Called) (o : Outcome) : Type 0 where
+-- What a call answers (number, moves, sparse) and leaves is what the rules say; the table is that of the segments.
+pub record AsRuled (S : Shares) (c : Called) (o : Outcome) : Type 0 where
   pub answer : c .answer ≡ o .answer
-  pub slots : c .slots ≡ render 0 (o .room .segments)
+  pub slots : c .lent .slots ≡ render 0 (o .room .segments)
+  pub table : c .lent .table ≡ tableOf (S .height) (o .room .segments)
   pub forecast : c .forecast ≡ forecastOf (o .room .cells)
 
--- A request on slots and forecast that pass the check, accepted or refused: as the rules say of what they show. Where it is refused nothing
+-- A request on list, table and forecast that pass the check, accepted or refused: as the rules say of what they show. Where it is refused nothing
 -- has changed, and what the slots show, written out, is the slots again.
 abbrev pub RequestRuled : Type 0
-RequestRuled = (profile : ℕ) (q : Request) (slots : List ℕ) (F : Forecast) → Roomy F → check profile slots F ≡ 0
-    → AsRuled (request profile q slots F) (outcome (sharesOf profile slots) q (roomOf slots F))
+RequestRuled = (profile : ℕ) (q : Request) (L : Lent) (F : Forecast) → Roomy F → check profile L F ≡ 0
+    → AsRuled (sharesOf profile (L .slots)) (request profile q L F) (outcome (sharesOf profile (L .slots)) q (roomOf (L .slots) F))
 
--- Slots and forecast that are the room R of the rules, and show it; what the next request answers and leaves is what the rules make of R.
+-- Slots, table and forecast that are the room R of the rules, and show it; what the next request answers and leaves is what the rules make of R.
 pub record IsRoom (profile : ℕ) (S : Shares) (R : Room) (H : Held) : Type 0 where
-  pub slots : H .slots ≡ render 0 (R .segments)
+  pub slots : H .lent .slots ≡ render 0 (R .segments)
+  pub table : H .lent .table ≡ tableOf (S .height) (R .segments)
   pub forecast : H .forecast ≡ forecastOf (R .cells)
-  pub shown : roomOf (H .slots) (H .forecast) ≡ R
-  pub next : (q : Request) → AsRuled (request profile q (H .slots) (H .forecast)) (outcome S q R)
+  pub shown : roomOf (H .lent .slots) (H .forecast) ≡ R
+  pub next : (q : Request) → AsRuled S (request profile q (H .lent) (H .forecast)) (outcome S q R)
 
--- In either profile, from make on any array of a permitted length: what stands after any sequence is what the rules alone make of an empty
--- list, and so are all the moves reported on the way.
+-- In either profile, from make on any array of a permitted length with a table of its size: what stands after any sequence is what the rules
+-- alone make of an empty list, and so are all the moves reported on the way.
 abbrev pub SequenceRuled : Type 0
-SequenceRuled = (p : Profile) (h : ℕ) → 1 ≤ h → h ≤ 6 → (slots : List ℕ) → length slots ≡ 64 * 2 ^ h → (asks : List set.Ask)
+SequenceRuled = (p : Profile) (h : ℕ) → 1 ≤ h → h ≤ 6 → (L : Lent) → length (L .slots) ≡ 64 * 2 ^ h → length (L .table) ≡ tableSize h → (asks : List set.Ask)
     → let n : ℕ = numberOf p in
-    IsRoom n (shares p h) (ruledAll (shares p h) asks (emptyRoom h)) (afterAll n asks (made n slots))
-    × (allMoves n asks (made n slots) ≡ allRuledMoves (shares p h) asks (emptyRoom h))
+    IsRoom n (shares p h) (ruledAll (shares p h) asks (emptyRoom h)) (afterAll n asks (made n L))
+    × (allMoves n asks (made n L) ≡ allRuledMoves (shares p h) asks (emptyRoom h))

@@ -8,8 +8,10 @@ use lib.Dec.{ltb, eqb}
 use lib.ListN.{length}
 use Rattle.lists.specs.Choice.{if_then_else_}
 use Rattle.slots.specs.Segments.{live}
+use Rattle.levels.specs.Tables.{tableSize}
 use Rattle.rules.specs.declared.Profile.{Profile}
 use Rattle.rules.specs.Profiles.{numberOf, isProfile, profileOf, most, fewest}
+use Rattle.rules.specs.Lent.{Lent}
 use Rattle.rules.specs.Checks.{check}
 use Rattle.rules.specs.PlainSet as set
 use Rattle.rules.specs.Demand2.{Held, told, after, made}
@@ -56,11 +58,11 @@ abbrev pub afterAll : List Asked → Held → Held
 afterAll [] H = H
 afterAll (a ∷ asks) H = afterAll asks (after (a .profile) (a .ask) H)
 
--- From make on, in either profile: every answer is the set's, the live keys are the set, and list and forecast pass the check in the second
--- profile, which has the larger most.
+-- From make on, in either profile: every answer is the set's, the live keys are the set, and list, table and forecast pass the check in the
+-- second profile, which has the larger most.
 abbrev pub MixedAnswered : Type 0
-MixedAnswered = (p : Profile) (h : ℕ) → 1 ≤ h → h ≤ 6 → (slots : List ℕ) → length slots ≡ 64 * 2 ^ h → (asks : List Asked)
-    → let H : Held = made (numberOf p) slots in
+MixedAnswered = (p : Profile) (h : ℕ) → 1 ≤ h → h ≤ 6 → (L : Lent) → length (L .slots) ≡ 64 * 2 ^ h → length (L .table) ≡ tableSize h → (asks : List Asked)
+    → let H : Held = made (numberOf p) L in
     (allTold asks H ≡ allSetTold h asks [])
-    × (live (afterAll asks H .slots) ≡ setAfterAll h asks [])
-    × (check 2 (afterAll asks H .slots) (afterAll asks H .forecast) ≡ 0)
+    × (live (afterAll asks H .lent .slots) ≡ setAfterAll h asks [])
+    × (check 2 (afterAll asks H .lent) (afterAll asks H .forecast) ≡ 0)

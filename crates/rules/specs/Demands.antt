@@ -4,7 +4,7 @@ use Rattle.rules.specs.Demand1.{RequestRefused, LookupRefused, ScanRefus
 use Rattle.rules.specs.Demand1.{RequestKeeps, RunKeeps}
 use Rattle.rules.specs.Demand2.{IsSet, SequenceAnswered, RequestRuled, SequenceRuled}
 use Rattle.rules.specs.Demand2Mixed.{MixedAnswered}
-use Rattle.rules.specs.Readings.{Table, TableLawful, SplitIs, NoZero, ClimbIs, InsertFinds, CellsAim}
+use Rattle.rules.specs.Readings.{Table, TableLawful, CountsAre, SplitIs, NoZero, ClimbIs, InsertFinds, CellsAim}
 use Rattle.rules.specs.Demand3.{Inside, KeysKept, SizesKept, SweepsTold, Again}
 use Rattle.rules.specs.Demand3Lent.{LentInside, LentAgain}
 use Rattle.rules.specs.Sums.{Sums}
@@ -46,6 +46,7 @@ pub record Demands : Type 0 where
   -- with our rounding and ties." What the rules choose, without the way they find it.
   pub table : Table
   pub lawful : TableLawful
+  pub counts-are : CountsAre
   pub split-is : SplitIs
   pub no-zero : NoZero
   pub climb-is : ClimbIs

@@ -5,6 +5,7 @@ pub mod Placing
 pub mod SharingOut
 pub mod Looking
 pub mod Runs
+pub mod Lent
 pub mod Checks
 pub mod Calls
 pub mod Rows

@@ -1,4 +1,4 @@
--- The declarative readings of the split, the climb and the cells.
+-- The declarative readings of the shares, the table beside a list, the split, the climb and the cells.
 use Prim.Native.Nat.{ℕ, suc, _+_, _-_, _*_, _/_, _^_, _≤_, _<_}
 use mathlib.Core.Path.{_≡_}
 use mathlib.Core.Option.{none, some}
@@ -8,6 +8,7 @@ use lib.ListN.{length, getD}
 use Rattle.lists.specs.Lists.{All, total}
 use Rattle.slots.specs.Segments.{Segments, keys}
 use Rattle.slots.specs.Windows.{count}
+use Rattle.levels.specs.Tables.{tableOf, tableSize, entryAt}
 use Rattle.slots.specs.Keys.{Listed, segmentOf}
 use Rattle.rules.specs.declared.Profile.{Profile}
 use Rattle.rules.specs.declared.Request.{Request}
@@ -19,12 +20,17 @@ use Rattle.rules.specs.Placing.{Room, chosen, putIn, home, insertLevel, 
 abbrev pub Limits : Shares → ℕ → ℕ → ℕ → Type 0
 Limits S l k n = (2 ^ l * S .low k ≤ n) × (n ≤ 2 ^ l * S .high k)
 
--- THE TABLE is the two formulas of its profile, and its shares are lawful, at every height.
+-- THE TABLE OF SHARES is the two formulas of its profile, and its shares are lawful, at every height.
 abbrev pub Table : Type 0
 Table = (p : Profile) (h l : ℕ) → 1 ≤ h → h ≤ 6 → l ≤ h → (shares p h .high l ≡ highBy p h l) × (shares p h .low l ≡ lowBy p h l)
 
 abbrev pub TableLawful : Type 0
 TableLawful = (p : Profile) (h : ℕ) → 1 ≤ h → h ≤ 6 → Lawful (shares p h)
+
+-- THE TABLE BESIDE A LIST has an entry for each window, which is the number of its keys.
+abbrev pub CountsAre : Type 0
+CountsAre = (h : ℕ) (ss : Segments) → length ss ≡ 2 ^ h
+    → (length (tableOf h ss) ≡ tableSize h) × ((l s : ℕ) → l ≤ h → s < 2 ^ h → getD (tableOf h ss) (entryAt h l s) 0 ≡ count l s ss)
 
 -- THE SPLIT of a window of level l + 1. Fractions by cross products.
 abbrev pub AtMost : Fraction → Fraction → Type 0

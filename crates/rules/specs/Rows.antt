@@ -1,10 +1,12 @@
--- Document 01, "Refusal numbers, in order of testing", and document 02's 15: each row in words about single slots, cells and bytes.
+-- Document 01, "Refusal numbers, in order of testing", and document 02's 14 and 15: each row in words about single slots, cells and bytes.
 use Prim.Native.Nat.{ℕ, _+_, _*_, _/_, _^_, _≤_, _<_}
 use mathlib.Core.Path.{_≡_}
 use mathlib.Core.Logic.{_⊎_, _≢_}
 use mathlib.Core.List.{List, [], _∷_, _++_}
-use lib.ListN.{length, drop, getD}
+use lib.ListN.{length, take, drop, getD}
 use Rattle.slots.specs.Segments.{live}
+use Rattle.slots.specs.Windows.{start}
+use Rattle.levels.specs.Tables.{tableSize, entryAt}
 use Rattle.slots.specs.Orders.{slotAt}
 use Rattle.cells.specs.declared.Cell.{Cell}
 use Rattle.cells.specs.Cells.{zeroCell}
@@ -12,6 +14,7 @@ use Rattle.forecast.specs.declared.Forecast.{Forecast}
 use Rattle.forecast.specs.Cells.{cells}
 use Rattle.rules.specs.Profiles.{profileOf, most}
 use Rattle.rules.specs.Runs.{requestOf}
+use Rattle.rules.specs.Lent.{Lent}
 use Rattle.rules.specs.Calls.{request, Worked}
 
 -- A row: its number, and when it is given.
@@ -79,6 +82,22 @@ pub data BadForecast (P : ℕ) (slots : List ℕ) (F : Forecast) : Type 0 where
 abbrev pub row4 : List ℕ → Forecast → Row
 row4 slots F = record { no = 4; when = (h : ℕ) × (length slots ≡ 64 * 2 ^ h) × BadForecast (6 + h) slots F }
 
+-- 14: table of the wrong length or with a wrong entry: the entry of the window of level l round segment s is not the number of keys in the
+-- window's slots.
+abbrev pub keysIn : List ℕ → ℕ → ℕ → ℕ
+keysIn slots l s = length (live (take (64 * 2 ^ l) (drop (64 * start l s) slots)))
+
+pub data WrongTable (h : ℕ) (L : Lent) : Type 0 where
+  wrongSize : length (L .table) ≢ tableSize h → WrongTable h L
+  wrongEntry : (l s : ℕ) → l ≤ h → s < 2 ^ h → getD (L .table) (entryAt h l s) 0 ≢ keysIn (L .slots) l s → WrongTable h L
+
+abbrev pub row14 : Lent → Row
+row14 L = record { no = 14; when = (h : ℕ) × (length (L .slots) ≡ 64 * 2 ^ h) × WrongTable h L }
+
+-- A table to be filled is tested for its length only.
+abbrev pub row14Size : Lent → Row
+row14Size L = record { no = 14; when = (h : ℕ) × (length (L .slots) ≡ 64 * 2 ^ h) × (length (L .table) ≢ tableSize h) }
+
 -- 5: the key of an insert, delete or lookup is 0.
 abbrev pub row5 : ℕ → Row
 row5 y = record { no = 5; when = y ≡ 0 }
@@ -113,28 +132,34 @@ row10 profile bytes allowance W = record {
   no = 10;
   when =
       (W .reply .tally .place < length bytes)
-      × (allowance < W .reply .tally .moves + request profile (requestOf (drop (W .reply .tally .place) bytes)) (W .slots) (W .forecast) .answer .moves);
+      × (allowance < W .reply .tally .moves + request profile (requestOf (drop (W .reply .tally .place) bytes)) (W .lent) (W .forecast) .answer .moves);
 }
 
--- THE ROWS OF EACH CALL, in order of testing: of the list, of list and forecast, then the call's own.
+-- THE ROWS OF EACH CALL, in order of testing: of the list, of all that is lent with and without a forecast, then the call's own.
 abbrev pub listRows : ℕ → List ℕ → List Row
 listRows profile slots = row15 profile ∷ row1 slots ∷ row2 slots ∷ row3 profile slots ∷ []
 
-abbrev pub bothRows : ℕ → List ℕ → Forecast → List Row
-bothRows profile slots F = listRows profile slots ++ (row4 slots F ∷ [])
+abbrev pub makeRows : ℕ → Lent → List Row
+makeRows profile L = row15 profile ∷ row1 (L .slots) ∷ row14Size L ∷ []
 
-abbrev pub lookupRows : ℕ → List ℕ → ℕ → List Row
-lookupRows profile slots y = listRows profile slots ++ (row5 y ∷ [])
+abbrev pub readRows : ℕ → Lent → List Row
+readRows profile L = listRows profile (L .slots) ++ (row14 L ∷ [])
 
-abbrev pub insertRows : ℕ → List ℕ → Forecast → ℕ → List Row
-insertRows profile slots F y = bothRows profile slots F ++ (row5 y ∷ row6 slots y ∷ row8 profile slots ∷ [])
+abbrev pub bothRows : ℕ → Lent → Forecast → List Row
+bothRows profile L F = listRows profile (L .slots) ++ (row4 (L .slots) F ∷ row14 L ∷ [])
 
-abbrev pub deleteRows : ℕ → List ℕ → Forecast → ℕ → List Row
-deleteRows profile slots F y = bothRows profile slots F ++ (row5 y ∷ row7 slots y ∷ [])
+abbrev pub lookupRows : ℕ → Lent → ℕ → List Row
+lookupRows profile L y = readRows profile L ++ (row5 y ∷ [])
+
+abbrev pub insertRows : ℕ → Lent → Forecast → ℕ → List Row
+insertRows profile L F y = bothRows profile L F ++ (row5 y ∷ row6 (L .slots) y ∷ row8 profile (L .slots) ∷ [])
+
+abbrev pub deleteRows : ℕ → Lent → Forecast → ℕ → List Row
+deleteRows profile L F y = bothRows profile L F ++ (row5 y ∷ row7 (L .slots) y ∷ [])
 
 -- The rows by which a run stops, and all of a run's; W is what it did before its place.
 abbrev pub stopRows : ℕ → List ℕ → ℕ → Worked → List Row
 stopRows profile bytes allowance W = row9 bytes (W .reply .tally .place) ∷ row10 profile bytes allowance W ∷ []
 
-abbrev pub runRows : ℕ → List ℕ → Forecast → List ℕ → ℕ → Worked → List Row
-runRows profile slots F bytes allowance W = bothRows profile slots F ++ stopRows profile bytes allowance W
+abbrev pub runRows : ℕ → Lent → Forecast → List ℕ → ℕ → Worked → List Row
+runRows profile L F bytes allowance W = bothRows profile L F ++ stopRows profile bytes allowance W

@@ -6,13 +6,14 @@ pub enum Profile {
     Second,
 }
 
-// Why a call, a request or a record is refused: a variant for each number of the documents, in order of testing: 15, then 1 to 10.
+// Why a call, a request or a record is refused: a variant for each number of the documents, in order of testing: 15, 1 to 4, 14, 5 to 10.
 pub enum Refusal {
     UnknownProfile,
     WrongLength,
     WrongOrder,
     TooManyKeys,
     WrongForecast,
+    WrongTable,
     KeyZero,
     KeyPresent,
     KeyAbsent,

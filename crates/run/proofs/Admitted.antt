@@ -5,12 +5,18 @@ use mathlib.Core.List.{List}
 use Prim.Native.Nat.{ℕ}
 use native.Mathlib.Decide.{decLt}
 use native.Mathlib.Omega.{arith}
+use lib.ListN.{length}
+use Rattle.slots.specs.Segments.{heightOf, render}
 use Rattle.forecast.specs.declared.Forecast.{Forecast}
 use Rattle.rules.specs.declared.Totals.{Totals}
+use Rattle.rules.specs.Lent.{Lent, rightTable, tabled}
 use Rattle.rules.specs.Checks.{check}
 use Rattle.rules.specs.Calls.{Worked, stoppedAtOnce, worked, run}
 use Rattle.rules.specs.Runs.{added}
+use Rattle.rules.proofs.Requests.Checked.{checked, checked-known, table-render}
+use Rattle.rules.proofs.Requests.Tabled.{room-passes}
 use Rattle.rules.proofs.Running.Runs.{run-refused, run-checked}
+use Rattle.rules.proofs.Running.Singly.{good-ran}
 use Rattle.steps.specs.declared.Worked as steps
 use Rattle.steps.specs.Works.{whole, Ends}
 use Rattle.opening.specs.Opens.{Refuses, Opens}
@@ -23,34 +29,46 @@ use Rattle.run.proofs.Readings.{added-nothing}
 abbrev runOf : Totals → steps.Worked → Run
 runOf T r = record { reply = record { forecast = r .forecast; tally = r .tally; stop = r .stop }; totals = added T (r .tally) }
 
-module _ (profile : ℕ) (slots : List ℕ) (F : Forecast) (bytes : List ℕ) (allowance : ℕ) (T : Totals) (r : steps.Worked) (left : List ℕ) where
+module _ (profile : ℕ) (L : Lent) (F : Forecast) (bytes : List ℕ) (allowance : ℕ) (T : Totals) (r : steps.Worked) (left : Lent) where
+  -- the slots that are left, and the table, which is right for them
+  lent-ended : check profile L F ≡ 0 → Ends profile (L .slots) F bytes allowance r (left .slots) (left .table)
+      → left ≡ tabled (render 0 (whole profile (L .slots) F bytes allowance .room .segments))
+  lent-ended c e =
+      let b = room-passes profile L F c in
+      let h = checked profile (L .slots) F b in
+      let right : left .table ≡ rightTable (render 0 (whole profile (L .slots) F bytes allowance .room .segments)) =
+      e .table-left
+      ∙ sym (table-render profile (checked-known profile (L .slots) F b) (heightOf (length (L .slots))) (h .0) (h .1) (whole profile (L .slots) F bytes allowance .room) (good-ran profile L F bytes allowance T c)) in
+      λ i. record { slots = e .slots-left i; table = right i }
+
   -- refused by its check: nothing is added
-  run-stopped : Reading T → check profile slots F ≢ 0 → Refuses profile slots F r left → RunAdmits profile slots F bytes allowance T (runOf T r) left
+  run-stopped : Reading T → check profile L F ≢ 0 → Refuses profile L F r left → RunAdmits profile L F bytes allowance T (runOf T r) left
   run-stopped h n e =
-      let w : run profile slots F bytes allowance T ≡ stoppedAtOnce slots F T (check profile slots F) = run-refused profile slots F bytes allowance T n in
+      let w : run profile L F bytes allowance T ≡ stoppedAtOnce L F T (check profile L F) = run-refused profile L F bytes allowance T n in
       record {
         tally = e .tally ∙ sym (ap (λ (z : Worked). z .reply .tally) w);
         stop = e .stop ∙ sym (ap (λ (z : Worked). z .reply .stop) w);
         forecast = e .forecast ∙ sym (ap (λ (z : Worked). z .forecast) w);
         totals = ap (added T) (e .tally) ∙ added-nothing T h ∙ sym (ap (λ (z : Worked). z .totals) w);
-        slots-left = e .slots-left ∙ sym (ap (λ (z : Worked). z .slots) w);
+        lent-left = e .lent-left ∙ sym (ap (λ (z : Worked). z .lent) w);
       }
 
   -- or it works the records
-  run-ended : check profile slots F ≡ 0 → Ends profile slots F bytes allowance r left → RunAdmits profile slots F bytes allowance T (runOf T r) left
+  run-ended : check profile L F ≡ 0 → Ends profile (L .slots) F bytes allowance r (left .slots) (left .table) → RunAdmits profile L F bytes allowance T (runOf T r) left
   run-ended c e =
-      let w : run profile slots F bytes allowance T ≡ worked T (whole profile slots F bytes allowance) = run-checked profile slots F bytes allowance T c in
+      let w : run profile L F bytes allowance T ≡ worked T (whole profile (L .slots) F bytes allowance) = run-checked profile L F bytes allowance T c in
+      let ended : left ≡ worked T (whole profile (L .slots) F bytes allowance) .lent = lent-ended c e in
       record {
         tally = e .tally ∙ sym (ap (λ (z : Worked). z .reply .tally) w);
         stop = e .stop ∙ sym (ap (λ (z : Worked). z .reply .stop) w);
         forecast = e .forecast ∙ sym (ap (λ (z : Worked). z .forecast) w);
         totals = ap (added T) (e .tally) ∙ sym (ap (λ (z : Worked). z .totals) w);
-        slots-left = e .slots-left ∙ sym (ap (λ (z : Worked). z .slots) w);
+        lent-left = ended ∙ sym (ap (λ (z : Worked). z .lent) w);
       }
 
-  pub run-opened : Reading T → Opens profile slots F bytes allowance r left → RunAdmits profile slots F bytes allowance T (runOf T r) left
+  pub run-opened : Reading T → Opens profile L F bytes allowance r left → RunAdmits profile L F bytes allowance T (runOf T r) left
   run-opened h o =
-      elim (decLt 0 (check profile slots F)) [
-        | yes p ↦ (let n : check profile slots F ≢ 0 = omega arith in run-stopped h n (o .refused n))
-        | no p ↦ (let c : check profile slots F ≡ 0 = omega arith in run-ended c (o .ended c))
+      elim (decLt 0 (check profile L F)) [
+        | yes p ↦ (let n : check profile L F ≢ 0 = omega arith in run-stopped h n (o .refused n))
+        | no p ↦ (let c : check profile L F ≡ 0 = omega arith in run-ended c (o .ended c))
       ]

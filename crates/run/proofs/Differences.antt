@@ -7,6 +7,7 @@ use native.Mathlib.Decide.{decLt}
 use native.Mathlib.Omega.{arith}
 use Rattle.forecast.specs.declared.Forecast.{Forecast}
 use Rattle.rules.specs.declared.Totals.{Totals}
+use Rattle.rules.specs.Lent.{Lent}
 use Rattle.rules.specs.Checks.{check}
 use Rattle.rules.specs.Calls.{Worked, stoppedAtOnce, worked, run}
 use Rattle.rules.proofs.Running.Runs.{run-refused, run-checked}
@@ -17,10 +18,10 @@ use Rattle.steps.specs.Works.{whole}
 use Rattle.run.specs.Differences.{Differs, RunDiffers}
 use Rattle.run.proofs.Readings.{cutTally, since-added, since-same}
 
-module _ (profile : ℕ) (slots : List ℕ) (F : Forecast) (bytes : List ℕ) (allowance : ℕ) (T : Totals) (r : Run) (left : List ℕ)
-    (a : RunAdmits profile slots F bytes allowance T r left) where
+module _ (profile : ℕ) (L : Lent) (F : Forecast) (bytes : List ℕ) (allowance : ℕ) (T : Totals) (r : Run) (left : Lent)
+    (a : RunAdmits profile L F bytes allowance T r left) where
   -- by what the run of the rules comes to, and what that adds to the totals
-  differs : (W : Worked) → run profile slots F bytes allowance T ≡ W → since (W .totals) T ≡ cutTally (W .reply .tally) → Differs r (since (r .totals) T)
+  differs : (W : Worked) → run profile L F bytes allowance T ≡ W → since (W .totals) T ≡ cutTally (W .reply .tally) → Differs r (since (r .totals) T)
   differs W w e =
       let d : since (r .totals) T ≡ cutTally (r .reply .tally) =
       ap (λ (z : Totals). since z T) (a .totals ∙ ap (λ (z : Worked). z .totals) w) ∙ e ∙ sym (ap cutTally (a .tally ∙ ap (λ (z : Worked). z .reply .tally) w)) in
@@ -32,13 +33,13 @@ module _ (profile : ℕ) (slots : List ℕ) (F : Forecast) (bytes : List ℕ) (a
       }
 
 pub run-differs : RunDiffers
-run-differs profile slots F bytes allowance T r left h a =
-    elim (decLt 0 (check profile slots F)) [
+run-differs profile L F bytes allowance T r left h a =
+    elim (decLt 0 (check profile L F)) [
       | yes p ↦
-          let n : check profile slots F ≢ 0 = omega arith in
-          differs profile slots F bytes allowance T r left a (stoppedAtOnce slots F T (check profile slots F)) (run-refused profile slots F bytes allowance T n) (since-same T h)
+          let n : check profile L F ≢ 0 = omega arith in
+          differs profile L F bytes allowance T r left a (stoppedAtOnce L F T (check profile L F)) (run-refused profile L F bytes allowance T n) (since-same T h)
       | no p ↦
-          let c : check profile slots F ≡ 0 = omega arith in
-          differs profile slots F bytes allowance T r left a (worked T (whole profile slots F bytes allowance)) (run-checked profile slots F bytes allowance T c)
-          (since-added T (whole profile slots F bytes allowance .tally) h)
+          let c : check profile L F ≡ 0 = omega arith in
+          differs profile L F bytes allowance T r left a (worked T (whole profile (L .slots) F bytes allowance)) (run-checked profile L F bytes allowance T c)
+          (since-added T (whole profile (L .slots) F bytes allowance .tally) h)
     ]

@@ -4,13 +4,14 @@ use mathlib.Core.List.{List}
 use Prim.Native.Nat.{ℕ}
 use Rattle.forecast.specs.declared.Forecast.{Forecast}
 use Rattle.rules.specs.declared.Totals.{Totals}
+use Rattle.rules.specs.Lent.{Lent}
 use Rattle.rules.proofs.Refusals.Told.{verdict-told}
 use Rattle.run.specs.declared.Run.{Run}
 use Rattle.run.specs.Admits.{RunAdmits}
 
-module _ (profile : ℕ) (slots : List ℕ) (F : Forecast) (bytes : List ℕ) (allowance : ℕ) (T : Totals) where
-  pub run-one : (r r′ : Run) (left left′ : List ℕ)
-      → RunAdmits profile slots F bytes allowance T r left → RunAdmits profile slots F bytes allowance T r′ left′ → (r ≡ r′) × (left ≡ left′)
+module _ (profile : ℕ) (L : Lent) (F : Forecast) (bytes : List ℕ) (allowance : ℕ) (T : Totals) where
+  pub run-one : (r r′ : Run) (left left′ : Lent)
+      → RunAdmits profile L F bytes allowance T r left → RunAdmits profile L F bytes allowance T r′ left′ → (r ≡ r′) × (left ≡ left′)
   run-one r r′ left left′ a b = (
     λ i. record {
       reply = record {
@@ -20,5 +21,5 @@ module _ (profile : ℕ) (slots : List ℕ) (F : Forecast) (bytes : List ℕ) (a
       };
       totals = (a .totals ∙ sym (b .totals)) i;
     },
-    a .slots-left ∙ sym (b .slots-left),
+    a .lent-left ∙ sym (b .lent-left),
   )

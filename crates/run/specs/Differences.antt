@@ -4,6 +4,7 @@ use mathlib.Core.Path.{_≡_}
 use mathlib.Core.List.{List}
 use Rattle.forecast.specs.declared.Forecast.{Forecast}
 use Rattle.rules.specs.declared.Totals.{Totals}
+use Rattle.rules.specs.Lent.{Lent}
 use Rattle.run.specs.declared.Run.{Run}
 use Rattle.run.specs.Sums.{since}
 use Rattle.run.specs.Admits.{RunAdmits}
@@ -15,7 +16,7 @@ pub record Reading (T : Totals) : Type 0 where
   pub moved : T .moved < 2 ^ 32
   pub sweeps : T .sweeps < 2 ^ 32
 
--- The difference d of two readings round a run r is what its reply has counted, modulo 2^32: nothing where it is refused by 15 or 1 to 4.
+-- The difference d of two readings round a run r is what its reply has counted, modulo 2^32: nothing where it is refused by 15, 1 to 4 or 14.
 pub record Differs (r : Run) (d : Totals) : Type 0 where
   pub worked : d .worked ≡ r .reply .tally .worked % 2 ^ 32
   pub refused : d .refused ≡ r .reply .tally .refused % 2 ^ 32
@@ -24,5 +25,5 @@ pub record Differs (r : Run) (d : Totals) : Type 0 where
 
 -- Of any outcome that a run's promise admits.
 abbrev pub RunDiffers : Type 0
-RunDiffers = (profile : ℕ) (slots : List ℕ) (F : Forecast) (bytes : List ℕ) (allowance : ℕ) (T : Totals) (r : Run) (left : List ℕ) → Reading T
-    → RunAdmits profile slots F bytes allowance T r left → Differs r (since (r .totals) T)
+RunDiffers = (profile : ℕ) (L : Lent) (F : Forecast) (bytes : List ℕ) (allowance : ℕ) (T : Totals) (r : Run) (left : Lent) → Reading T
+    → RunAdmits profile L F bytes allowance T r left → Differs r (since (r .totals) T)

@@ -1,4 +1,5 @@
 // A run: the check once, then the records in order within an allowance of moves.
+ghost use Rattle.rules.specs.Lent.{lend};
 ghost use Rattle.run.specs.Admits.{RunAdmits};
 use crate::Reply;
 use crate::Run;
@@ -10,14 +11,15 @@ use rules::Totals;
 pub fn run_with(
     profile: u64,
     list: &mut [u64],
+    table: &mut [usize],
     forecast: Forecast,
     requests: &[u8],
     allowance: u64,
     totals: Totals,
 ) -> Run
-    ensures { λ r. ⌜ RunAdmits profile (now (list .entry)) forecast (now (requests .entry)) allowance totals r (now (list .exit)) ⌝ }
+    ensures { λ r. ⌜ RunAdmits profile (lend (now (list .entry)) (now (table .entry))) forecast (now (requests .entry)) allowance totals r (lend (now (list .exit)) (now (table .exit))) ⌝ }
 {
-    let worked = opening::work_lent(profile, list, forecast, requests, allowance);
+    let worked = opening::work_lent(profile, list, table, forecast, requests, allowance);
     let after = worked.forecast;
     let tally = worked.tally;
     let stop = worked.stop;

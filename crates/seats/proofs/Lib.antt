@@ -1,3 +1,4 @@
 pub mod Halves
 pub mod Bounds
+pub mod Indexes
 pub mod Seats

@@ -1,5 +1,5 @@
 -- A number for each of 64 segments, by which a key's segment is found: one less than the first key from the segment on.
-use Prim.Native.Nat.{ℕ, zero, suc, _-_, _≤_, _<_}
+use Prim.Native.Nat.{ℕ, zero, suc, _-_, _^_, _≤_, _<_}
 use mathlib.Core.Path.{_≡_}
 use mathlib.Core.Logic.{_≢_}
 use mathlib.Core.List.{List, [], _∷_}
@@ -7,7 +7,8 @@ use lib.Dec.{eqb}
 use lib.ListN.{length, drop, getD}
 use Rattle.lists.specs.Choice.{if_then_else_}
 use Rattle.slots.specs.Segments.{Segments, keys}
-use Rattle.slots.specs.Shown.{Shows, CountsOf}
+use Rattle.slots.specs.Shown.{Shows}
+use Rattle.levels.specs.Tables.{tableOf}
 
 -- The largest number a slot holds: below no key.
 abbrev pub top : ℕ
@@ -44,11 +45,11 @@ pub record Near (m : ℕ) (ss : Segments) (a e : ℕ) (bounds : List ℕ) : Type
   pub after : (k : ℕ) → m ≤ k → e ≤ k → k < 64 → getD bounds k 0 ≡ boundAt ss k
   pub before : (k j : ℕ) → m ≤ k → k < 64 → k ≤ j → j < a → getD ss j [] ≢ [] → getD bounds k 0 ≡ boundAt ss k
 
--- What a run keeps beside the slots of its list: the bounds, and the number of keys in each segment, in a table that may be longer.
-pub record Indexed (ss : Segments) (slots bounds counts : List ℕ) : Type 0 where
+-- What a run keeps beside the slots of its list: the bounds, and the table of counts, which is right.
+pub record Indexed (ss : Segments) (slots bounds table : List ℕ) : Type 0 where
   pub shows : Shows ss slots
-  pub some : 0 < length ss
-  pub few : length ss ≤ 64
   pub bound : Bounded 1 ss bounds
-  pub long : length ss ≤ length counts
-  pub count : CountsOf ss counts
+  pub height : ℕ
+  pub low : height ≤ 6
+  pub size : length ss ≡ 2 ^ height
+  pub right : table ≡ tableOf height ss

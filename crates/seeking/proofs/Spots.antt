@@ -18,10 +18,11 @@ use Rattle.slots.specs.Keys.{Rising, member, below}
 use Rattle.slots.specs.Orders.{slotAt}
 use Rattle.slots.specs.Shown.{seat}
 use Rattle.slots.proofs.Keys.{in-part, rising-part}
-use Rattle.slots.proofs.Render.{length-render, slot-render}
+use Rattle.slots.proofs.Render.{slot-render}
 use Rattle.slots.proofs.Halving.{rising-at, below-place, past-below, found, not-found}
 use Rattle.slots.proofs.Seats.{seat-between, seat-member, pred-at}
 use Rattle.seats.specs.Bounds.{top, Indexed}
+use Rattle.seats.proofs.Indexes.{some-segments, slots-long, table-holds, counts-held}
 use Rattle.seats.specs.Halves.{halved, Last}
 use Rattle.seeking.specs.Spots.{lessOne, keyUpTo, placeAt, beforeAt, Spotted}
 use Rattle.seats.proofs.Halves.{halved-last}
@@ -81,18 +82,18 @@ below-less : (x key : ℕ) → 0 < x → x ≤ key → lessOne x < key
 below-less x key p h = rw (ne-eqb x 0 (ne-of-gt p)) (omega arith)
 
 -- THE SEGMENT is in the list
-pub seat-room : (key : ℕ) (ss : Segments) (list bounds counts : List ℕ) → Indexed ss list bounds counts → (s : ℕ) → s ≡ seat key ss → 64 * s + 64 ≤ length list
-seat-room key ss list bounds counts ix s e =
-    let h : s < length ss = rw e (seat-between key ss (ix .shows .listed) (ix .some) .0) in
-    omega (arith, ap length (ix .shows .whole), length-render 0 ss (ix .shows .fits))
+pub seat-room : (key : ℕ) (ss : Segments) (list bounds table : List ℕ) → Indexed ss list bounds table → (s : ℕ) → s ≡ seat key ss → 64 * s + 64 ≤ length list
+seat-room key ss list bounds table ix s e =
+    let h : s < length ss = rw e (seat-between key ss (ix .shows .listed) (some-segments ix) .0) in
+    omega (arith, slots-long ix)
 
--- and in the table of counts
-pub seat-counted : (key : ℕ) (ss : Segments) (list bounds counts : List ℕ) → Indexed ss list bounds counts → (s : ℕ) → s ≡ seat key ss → s < length counts
-seat-counted key ss list bounds counts ix s e = let h : s < length ss = rw e (seat-between key ss (ix .shows .listed) (ix .some) .0) in omega (arith, ix .long)
+-- and in the table
+pub seat-counted : (key : ℕ) (ss : Segments) (list bounds table : List ℕ) → Indexed ss list bounds table → (s : ℕ) → s ≡ seat key ss → s < length table
+seat-counted key ss list bounds table ix s e = let h : s < length ss = rw e (seat-between key ss (ix .shows .listed) (some-segments ix) .0) in omega (arith, table-holds ix)
 
 module _
-    (key : ℕ) (ss : Segments) (list bounds counts : List ℕ) (ix : Indexed ss list bounds counts) (fits : key ≤ top) (s held q : ℕ) (se : s ≡ seat key ss)
-    (he : held ≡ getD counts s 0) (qe : q ≡ halved (keyUpTo list key) (64 * s))
+    (key : ℕ) (ss : Segments) (list bounds table : List ℕ) (ix : Indexed ss list bounds table) (fits : key ≤ top) (s held q : ℕ) (se : s ≡ seat key ss)
+    (he : held ≡ getD table s 0) (qe : q ≡ halved (keyUpTo list key) (64 * s))
   where
     abbrev there : List ℕ
     there = getD ss s []
@@ -101,7 +102,7 @@ module _
     t = keyUpTo list key
 
     inside : s < length ss
-    inside = rw se (seat-between key ss (ix .shows .listed) (ix .some) .0)
+    inside = rw se (seat-between key ss (ix .shows .listed) (some-segments ix) .0)
 
     small : length there ≤ 64
     small = ix .shows .fits there (at-mem ss s [] inside)
@@ -151,21 +152,21 @@ module _
         → Spotted key ss list (record { place = record { segment = s; held = held; at = at; present = b }; before = x })
     spotted at b x p f =
         record {
-          room = seat-room key ss list bounds counts ix s se;
+          room = seat-room key ss list bounds table ix s se;
           order = omega (arith, h, p .0, only-length (λ k. ltb k key) there);
           few = omega (arith, h, small);
           place = record { segment = se; held = h ∙ ap (λ (k : ℕ). length (getD ss k [])) se; at = a; present = m };
-          before = λ n. sym (pred-at key ss (ix .shows .listed) (ix .some) n ∙ w ∙ f (subst (λ (z : Bool). T (not z)) (sym m) n));
+          before = λ n. sym (pred-at key ss (ix .shows .listed) (some-segments ix) n ∙ w ∙ f (subst (λ (z : Bool). T (not z)) (sym m) n));
         }
       where
         h : held ≡ length there
-        h = he ∙ ix .count s inside
+        h = he ∙ counts-held ix s inside
 
         a : at ≡ length (below key (getD ss (seat key ss) []))
         a = p .0 ∙ ap (λ (k : ℕ). length (below key (getD ss k []))) se
 
         m : b ≡ member key (keys ss)
-        m = p .1 ∙ ap (λ (k : ℕ). member key (getD ss k [])) se ∙ seat-member key ss (ix .shows .listed) (ix .some)
+        m = p .1 ∙ ap (λ (k : ℕ). member key (getD ss k [])) se ∙ seat-member key ss (ix .shows .listed) (some-segments ix)
 
         w : (if eqb (length (below key (getD ss (seat key ss) []))) 0 then 0 else getD (getD ss (seat key ss) []) (length (below key (getD ss (seat key ss) [])) - 1) 0)
             ≡ (if eqb at 0 then 0 else getD there (at - 1) 0)

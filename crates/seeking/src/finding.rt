@@ -64,12 +64,12 @@ fn before_at(found: u64, key: u64) -> u64
 }
 
 // Where a search for `key` ends, with the key before it where it is not live.
-pub fn spot(list: &[u64], bounds: &[u64], counts: &[usize], key: u64) -> Spot
-    requires { ⌜ Indexed (segmentsOf (now list)) (now list) (now bounds) (now counts) × (0 < key) ⌝ }
+pub fn spot(list: &[u64], table: &[usize], bounds: &[u64], key: u64) -> Spot
+    requires { ⌜ Indexed (segmentsOf (now list)) (now list) (now bounds) (now table) × (0 < key) ⌝ }
     ensures { λ r. ⌜ Spotted key (segmentsOf (now (list .entry))) (now (list .entry)) r ⌝ }
 {
     let segment = seats::seat_of(bounds, key);
-    let held = counts[segment];
+    let held = table[segment];
     let a = 64 * segment;
     let rest = place_in(list, a, key);
     let found = list[rest];

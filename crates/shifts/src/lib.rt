@@ -1,44 +1,47 @@
-// A key put in or taken out where a search for it ended: its slots, with the counts and the bounds, as code.
+// A key put in or taken out where a search for it ended: its slots, with the table and the bounds, as code.
 ghost use mathlib.Core.Path.{_≡_};
 ghost use mathlib.Core.Bool.{not};
 ghost use mathlib.Core.List.{List, []};
-ghost use Prim.Native.Nat.{ℕ, _+_, _*_, _≤_, _<_};
+ghost use Prim.Native.Nat.{ℕ, _+_, _*_, _/_, _≤_, _<_};
 ghost use lib.Dec.{T};
 ghost use lib.ListN.{length, getD, set};
 ghost use Rattle.slots.specs.Segments.{Segments, keys};
 ghost use Rattle.slots.specs.Keys.{member, put, cut};
 ghost use Rattle.slots.specs.Shown.{seat, Located};
+ghost use Rattle.tables.specs.Kept.{Summed};
 ghost use Rattle.seats.specs.Bounds.{Indexed};
 use bounding::rebound;
 use slots::Place;
 
 // A new key, in a segment with room. No bound that a search reads changes.
-pub fn put_in(list: &mut [u64], counts: &mut [usize], place: Place, key: u64)
-    requires { ⌜ (place .segment < length (now counts)) × (64 * place .segment + 64 ≤ length (now list)) × (place .at ≤ place .held) × (place .held < 64) ⌝ }
-    ensures { λ _. ⌜ ((ss : Segments) (bounds : List ℕ) → Indexed ss (now (list .entry)) bounds (now (counts .entry)) → Located key ss place → T (not (member key (keys ss))) → 0 < key → Indexed (set ss (seat key ss) (put key (getD ss (seat key ss) []))) (now (list .exit)) bounds (now (counts .exit))) ⌝ }
+pub fn put_in(list: &mut [u64], table: &mut [usize], place: Place, key: u64)
+    requires { ⌜ (64 * place .segment + 64 ≤ length (now list)) × (place .at ≤ place .held) × (place .held < 64) × (place .segment < length (now table) / 2 + 1) × Summed (length (now table) / 2 + 1) (now table) ⌝ }
+    ensures { λ _. ⌜ ((ss : Segments) (bounds : List ℕ) → Indexed ss (now (list .entry)) bounds (now (table .entry)) → Located key ss place → T (not (member key (keys ss))) → 0 < key → Indexed (set ss (seat key ss) (put key (getD ss (seat key ss) []))) (now (list .exit)) bounds (now (table .exit))) ⌝ }
 {
+    let n = table.len() / 2 + 1;
     let segment = place.segment;
     let held = place.held;
     let at = place.at;
     let a = 64 * segment;
     let e = a + 64;
     moves::open_gap(&mut list[a..e], held, at, key);
-    counts[segment] = held + 1;
+    tables::keeping::add_one(table, n, segment);
 }
 
 // A live key. Where it was its segment's first, that bound and those of the empty segments before change.
-pub fn cut_out(list: &mut [u64], bounds: &mut [u64], counts: &mut [usize], place: Place, key: u64)
+pub fn cut_out(list: &mut [u64], table: &mut [usize], bounds: &mut [u64], place: Place, key: u64)
     requires { ⌜ (place .segment < 64) × (64 * place .segment + 64 ≤ length (now list)) × (place .at < place .held) × (place .held ≤ 64) ⌝ }
-    requires { ⌜ (length (now bounds) ≡ 64) × (place .segment < length (now counts)) ⌝ }
-    ensures { λ _. ⌜ ((ss : Segments) → Indexed ss (now (list .entry)) (now (bounds .entry)) (now (counts .entry)) → Located key ss place → T (member key (keys ss)) → Indexed (set ss (seat key ss) (cut key (getD ss (seat key ss) []))) (now (list .exit)) (now (bounds .exit)) (now (counts .exit))) ⌝ }
+    requires { ⌜ (length (now bounds) ≡ 64) × (place .segment < length (now table) / 2 + 1) × Summed (length (now table) / 2 + 1) (now table) × (getD (now table) (place .segment) 0 ≡ place .held) ⌝ }
+    ensures { λ _. ⌜ ((ss : Segments) → Indexed ss (now (list .entry)) (now (bounds .entry)) (now (table .entry)) → Located key ss place → T (member key (keys ss)) → Indexed (set ss (seat key ss) (cut key (getD ss (seat key ss) []))) (now (list .exit)) (now (bounds .exit)) (now (table .exit))) ⌝ }
 {
+    let n = table.len() / 2 + 1;
     let segment = place.segment;
     let held = place.held;
     let at = place.at;
     let a = 64 * segment;
     let e = a + 64;
     moves::close_gap(&mut list[a..e], held, at);
-    counts[segment] = held - 1;
+    tables::keeping::take_one(table, n, segment);
     if at == 0 {
         rebound(list, bounds, segment, segment + 1);
         return;

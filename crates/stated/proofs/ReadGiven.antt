@@ -4,6 +4,7 @@ use mathlib.Core.Path.{_≡_, refl, ap, _∙_}
 use mathlib.Core.List.{List, [], _∷_}
 use lib.ListN.{length}
 use Rattle.forecast.specs.declared.Forecast.{Forecast}
+use Rattle.rules.specs.Lent.{lend}
 use Rattle.rules.specs.Checks as checks
 use Rattle.rules.specs.Runs.{one}
 use Rattle.answers.specs.declared.MakeReply.{MakeReply}
@@ -19,30 +20,31 @@ use Rattle.telling.specs.Told.{foundWords, scannedWords}
 use Rattle.words.specs.Words.{forecastIn, forecastWords, saturated}
 use Rattle.words.proofs.Called.{check-same}
 
-module _ (profile : ℕ) (list forecast : List ℕ) (l : length forecast ≡ 37) where
-  pub make-given : (m : MakeReply) (n : ℕ) (list' forecast' : List ℕ) → MakeAdmits profile list m list' → forecast' ≡ forecastWords (m .forecast) → n ≡ makeNumber (m .answer)
-      → Gives (make profile list forecast) n (list' ∷ forecast' ∷ [])
+module _ (profile : ℕ) (list table forecast : List ℕ) (l : length forecast ≡ 37) where
+  pub make-given : (m : MakeReply) (n : ℕ) (list' table' forecast' : List ℕ) → MakeAdmits profile (lend list table) m (lend list' table') → forecast' ≡ forecastWords (m .forecast)
+      → n ≡ makeNumber (m .answer) → Gives (make profile list table forecast) n (list' ∷ table' ∷ forecast' ∷ [])
   unfolding make
-  make-given m n list' forecast' a w q =
+  make-given m n list' table' forecast' a w q =
       let words = w ∙ ap forecastWords (a .forecast) in
-      fitted (notForecast forecast) _ _ (forecast-sized forecast l) (record { number = q ∙ a .answer; slices = λ i. a .slots-left i ∷ words i ∷ [] })
+      fitted (notForecast forecast) _ _ (forecast-sized forecast l) (record { number = q ∙ a .answer; slices = λ i. a .lent-left i .slots ∷ a .lent-left i .table ∷ words i ∷ [] })
 
-  pub check-given : (F : Forecast) (k : CheckAnswer) (n : ℕ) → F ≡ saturated (forecastIn forecast) → CheckAdmits profile list F k → n ≡ checkNumber k → Gives (check profile list forecast) n []
+  pub check-given : (F : Forecast) (k : CheckAnswer) (n : ℕ) → F ≡ saturated (forecastIn forecast) → CheckAdmits profile (lend list table) F k → n ≡ checkNumber k
+      → Gives (check profile list table forecast) n []
   unfolding check
   check-given F k n q a m =
-      fitted (notForecast forecast) _ _ (forecast-sized forecast l) (record { number = m ∙ a .answer ∙ ap (checks.check profile list) q ∙ check-same profile list (forecastIn forecast); slices = refl })
+      fitted (notForecast forecast) _ _ (forecast-sized forecast l) (record { number = m ∙ a .answer ∙ ap (checks.check profile (lend list table)) q ∙ check-same profile (lend list table) (forecastIn forecast); slices = refl })
 
-module _ (profile : ℕ) (list : List ℕ) (key : ℕ) (reply : List ℕ) (l : 2 ≤ length reply) where
-  pub lookup-given : (k : LookupAnswer) (t : Told) (n : ℕ) (reply' : List ℕ) → LookupAdmits profile list key k → t ≡ foundWords (lookupPaper k) → n ≡ t .number
-      → reply' ≡ over (t .first ∷ t .second ∷ []) reply → Gives (lookup profile list key reply) n (reply' ∷ [])
+module _ (profile : ℕ) (list table : List ℕ) (key : ℕ) (reply : List ℕ) (l : 2 ≤ length reply) where
+  pub lookup-given : (k : LookupAnswer) (t : Told) (n : ℕ) (reply' : List ℕ) → LookupAdmits profile (lend list table) key k → t ≡ foundWords (lookupPaper k) → n ≡ t .number
+      → reply' ≡ over (t .first ∷ t .second ∷ []) reply → Gives (lookup profile list table key reply) n (reply' ∷ [])
   unfolding lookup
   lookup-given k t n reply' a q m w =
       let is = q ∙ ap foundWords (a .answer) in
       let said = w ∙ ap (λ (x : Told). over (x .first ∷ x .second ∷ []) reply) is in
       fitted (short reply 2) _ _ (reply-sized reply 2 l) (record { number = m ∙ ap (λ (x : Told). x .number) is; slices = λ i. said i ∷ [] })
 
-  pub scan-given : (output : List ℕ) (k : ScanAnswer) (t : Told) (n : ℕ) (output' reply' : List ℕ) → ScanAdmits profile list key output k output' → t ≡ scannedWords (scanPaper k)
-      → n ≡ t .number → reply' ≡ over (t .first ∷ t .second ∷ []) reply → Gives (scan profile list key output reply) n (output' ∷ reply' ∷ [])
+  pub scan-given : (output : List ℕ) (k : ScanAnswer) (t : Told) (n : ℕ) (output' reply' : List ℕ) → ScanAdmits profile (lend list table) key output k output' → t ≡ scannedWords (scanPaper k)
+      → n ≡ t .number → reply' ≡ over (t .first ∷ t .second ∷ []) reply → Gives (scan profile list table key output reply) n (output' ∷ reply' ∷ [])
   unfolding scan
   scan-given output k t n output' reply' a q m w =
       let number = m ∙ ap (λ (x : Told). x .number) q ∙ a .number in

@@ -6,12 +6,12 @@ ghost use lib.ListN.{length};
 ghost use Rattle.given.specs.Calls.{Gives};
 ghost use Rattle.given.specs.Calls as calls;
 
-// Makes a list and its forecast empty.
-pub fn make(profile: u64, list: &mut [u64], forecast: &mut [u64]) -> u64
+// Makes a list, its table and its forecast empty.
+pub fn make(profile: u64, list: &mut [u64], table: &mut [usize], forecast: &mut [u64]) -> u64
     requires { ⌜ length (now forecast) ≡ 37 ⌝ }
-    ensures { λ r. ⌜ Gives (calls.make profile (now (list .entry)) (now (forecast .entry))) r (now (list .exit) ∷ now (forecast .exit) ∷ []) ⌝ }
+    ensures { λ r. ⌜ Gives (calls.make profile (now (list .entry)) (now (table .entry)) (now (forecast .entry))) r (now (list .exit) ∷ now (table .exit) ∷ now (forecast .exit) ∷ []) ⌝ }
 {
-    let made = list::calls::make(profile, list);
+    let made = list::calls::make(profile, list, table);
     let answer = made.answer;
     let number = telling::make_number(answer);
     let empty = made.forecast;
@@ -19,32 +19,39 @@ pub fn make(profile: u64, list: &mut [u64], forecast: &mut [u64]) -> u64
     number
 }
 
-// Tests refusals 15 and 1 to 4.
-pub fn check(profile: u64, list: &[u64], forecast: &[u64]) -> u64
+// Tests refusals 15, 1 to 4 and 14.
+pub fn check(profile: u64, list: &[u64], table: &[usize], forecast: &[u64]) -> u64
     requires { ⌜ length (now forecast) ≡ 37 ⌝ }
-    ensures { λ r. ⌜ Gives (calls.check profile (now (list .entry)) (now (forecast .entry))) r [] ⌝ }
+    ensures { λ r. ⌜ Gives (calls.check profile (now (list .entry)) (now (table .entry)) (now (forecast .entry))) r [] ⌝ }
 {
     let given = words::read_forecast(forecast);
-    let passed = telling::check_number(list::calls::check(profile, list, given));
+    let passed = telling::check_number(list::calls::check(profile, list, table, given));
     passed
 }
 
 // Whether a key is live, and where.
-pub fn lookup(profile: u64, list: &[u64], key: u64, reply: &mut [u64]) -> u64
+pub fn lookup(profile: u64, list: &[u64], table: &[usize], key: u64, reply: &mut [u64]) -> u64
     requires { ⌜ 2 ≤ length (now reply) ⌝ }
-    ensures { λ r. ⌜ Gives (calls.lookup profile (now (list .entry)) key (now (reply .entry))) r (now (reply .exit) ∷ []) ⌝ }
+    ensures { λ r. ⌜ Gives (calls.lookup profile (now (list .entry)) (now (table .entry)) key (now (reply .entry))) r (now (reply .exit) ∷ []) ⌝ }
 {
-    let found = list::calls::lookup(profile, list, key);
+    let found = list::calls::lookup(profile, list, table, key);
     let told = telling::lookup_told(found);
     replies::writing::tell_two(told, reply)
 }
 
 // The live keys above `from`, rising.
-pub fn scan(profile: u64, list: &[u64], from: u64, output: &mut [u64], reply: &mut [u64]) -> u64
+pub fn scan(
+    profile: u64,
+    list: &[u64],
+    table: &[usize],
+    from: u64,
+    output: &mut [u64],
+    reply: &mut [u64],
+) -> u64
     requires { ⌜ 2 ≤ length (now reply) ⌝ }
-    ensures { λ r. ⌜ Gives (calls.scan profile (now (list .entry)) from (now (output .entry)) (now (reply .entry))) r (now (output .exit) ∷ now (reply .exit) ∷ []) ⌝ }
+    ensures { λ r. ⌜ Gives (calls.scan profile (now (list .entry)) (now (table .entry)) from (now (output .entry)) (now (reply .entry))) r (now (output .exit) ∷ now (reply .exit) ∷ []) ⌝ }
 {
-    let scanned = list::calls::scan(profile, list, from, output);
+    let scanned = list::calls::scan(profile, list, table, from, output);
     let told = telling::scan_told(scanned);
     replies::writing::tell_two(told, reply)
 }

@@ -12,6 +12,7 @@ use lib.ListN.{length, drop, getD, length-drop, drop-of-length-le}
 use lib.Seq.{drop-drop}
 use Rattle.lists.proofs.Tests.{tested}
 use Rattle.slots.specs.Segments.{keys, segmentsOf, render}
+use Rattle.levels.specs.Tables.{tableOf}
 use Rattle.forecast.specs.declared.Forecast.{Forecast}
 use Rattle.forecast.specs.Cells.{usedCells, forecastOf}
 use Rattle.forecast.specs.Tidy.{Roomy}
@@ -37,7 +38,7 @@ use Rattle.shares.specs.Rows.{sharesAt}
 use Rattle.seats.specs.Bounds.{Indexed}
 use Rattle.aims.specs.declared.Aim.{Aim}
 use Rattle.aims.specs.Aims.{Stands, Aimed}
-use Rattle.aims.proofs.Standing.{keys-stand}
+use Rattle.aims.proofs.Standing.{keys-stand, right-stands}
 use Rattle.steps.specs.declared.Worked.{Worked}
 use Rattle.tallies.specs.Counted.{isStop, isAccepted, comesTo, nextOf, keysOf}
 use Rattle.tallies.proofs.Verdicts.{told, stop-high, on-good, comes-over, comes-within}
@@ -57,7 +58,7 @@ pub record Now : Type 0 where
   pub slots : List ℕ
   pub forecast : Forecast
   pub bounds : List ℕ
-  pub counts : List ℕ
+  pub table : List ℕ
   pub keys : ℕ
   pub last : Verdict
   pub tally : Tally
@@ -82,7 +83,7 @@ LastOf L last = (q : Request) → recordsOf (L .bytes) ≡ q ∷ [] → verdictN
 pub record Going (L : Lent) (N : Now) : Type 0 where
   pub stands : Stands (N .slots) (N .forecast) (L .shape) (N .keys)
   pub shown : forecastOf (usedCells (N .forecast)) ≡ N .forecast
-  pub index : Indexed (segmentsOf (N .slots)) (N .slots) (N .bounds) (N .counts)
+  pub index : Indexed (segmentsOf (N .slots)) (N .slots) (N .bounds) (N .table)
   pub shares-lent : sharesOf (number L) (L .slots) ≡ of L
   pub in-bytes : N .tally .place ≤ length (L .bytes)
   pub worked : N .tally .worked ≤ N .tally .place
@@ -94,12 +95,12 @@ pub record Going (L : Lent) (N : Now) : Type 0 where
   pub single : 11 ≤ N .tally .place → LastOf L (N .last)
 
 -- it begins so
-pub going-start : (slots : List ℕ) (F : Forecast) (bytes : List ℕ) (allowance : ℕ) (k : Shape) (bounds counts : List ℕ) (n : ℕ) (last : Verdict) → Stands slots F k n
-    → Indexed (segmentsOf slots) slots bounds counts → Roomy F
+pub going-start : (slots : List ℕ) (F : Forecast) (bytes : List ℕ) (allowance : ℕ) (k : Shape) (bounds table : List ℕ) (n : ℕ) (last : Verdict) → Stands slots F k n
+    → Indexed (segmentsOf slots) slots bounds table → Roomy F
     → Going (record { slots = slots; forecast = F; bytes = bytes; allowance = allowance; shape = k })
-    (record { slots = slots; forecast = F; bounds = bounds; counts = counts; keys = n; last = last; tally = nothing })
+    (record { slots = slots; forecast = F; bounds = bounds; table = table; keys = n; last = last; tally = nothing })
 unfolding ran
-going-start slots F bytes allowance k bounds counts n last s x r = record {
+going-start slots F bytes allowance k bounds table n last s x r = record {
   stands = s;
   shown = forecast-shown (numberOf (k .profile)) slots F (s .passes) r;
   index = x;
@@ -149,7 +150,7 @@ module _ {L : Lent} {N : Now} (g : Going L N) where
   -- where the work left is a stop, the run ends with what there is
   ended : (v : Verdict)
       → work (of L) (L .allowance) (recordsOf (drop (N .tally .place) (L .bytes))) (room N) (N .tally) ≡ stopped (verdictNumber v) (room N) (N .tally)
-      → (verdictNumber v ≡ 0 → LastOf L (N .last)) → Ends (number L) (L .slots) (L .forecast) (L .bytes) (L .allowance) (backAt N v) (N .slots)
+      → (verdictNumber v ≡ 0 → LastOf L (N .last)) → Ends (number L) (L .slots) (L .forecast) (L .bytes) (L .allowance) (backAt N v) (N .slots) (N .table)
   ended v e last =
       let w : all L ≡ stopped (verdictNumber v) (room N) (N .tally) = g .rest ∙ e in
       record {
@@ -157,12 +158,14 @@ module _ {L : Lent} {N : Now} (g : Going L N) where
         stop = sym (ap (λ (r : Ran). r .stop) w);
         forecast = sym (g .shown) ∙ sym (ap (λ (r : Ran). forecastOf (r .room .cells)) w);
         slots-left = sym (slots-shown (number L) (N .slots) (N .forecast) (g .stands .passes)) ∙ sym (ap (λ (r : Ran). render 0 (r .room .segments)) w);
+        table-left = right-stands (g .stands) (g .index)
+            ∙ ap₂ tableOf (sym (ap (λ (S : Shares). S .height) (g .shares-lent))) (sym (ap (λ (r : Ran). r .room .segments) w));
         keys = sym (keys-stand (g .stands)) ∙ sym (ap (λ (r : Ran). length (keys (r .room .segments))) w);
         single = λ q one z. last (sym (ap (λ (r : Ran). r .stop) w) ∙ z) q one;
       }
 
   -- at the end of the bytes
-  pub ends-whole : length (L .bytes) ≤ N .tally .place → Ends (number L) (L .slots) (L .forecast) (L .bytes) (L .allowance) (backAt N Accepted) (N .slots)
+  pub ends-whole : length (L .bytes) ≤ N .tally .place → Ends (number L) (L .slots) (L .forecast) (L .bytes) (L .allowance) (backAt N Accepted) (N .slots) (N .table)
   ends-whole p =
       ended Accepted
       (ap (λ (l : List Request). work (of L) (L .allowance) l (room N) (N .tally)) (ap recordsOf (drop-of-length-le (L .bytes) p) ∙ records-nil) ∙ work-end (of L) (L .allowance) (room N) (N .tally))
@@ -194,7 +197,7 @@ module _ {L : Lent} {N : Now} {r : Aim} (a : AtRecord L N r) where
   abbrev t : Tally
   t = N .tally
 
-  pub turning : Turning (N .slots) (N .forecast) (N .bounds) (N .counts) (L .shape) (asks L N) (N .keys) r
+  pub turning : Turning (N .slots) (N .forecast) (N .bounds) (N .table) (L .shape) (asks L N) (N .keys) r
   turning = record { stands = g .stands; shown = g .shown; index = g .index; aimed = a .aimed }
 
   here : work (of L) (L .allowance) (recordsOf (drop (N .tally .place) (L .bytes))) (room N) (N .tally)
@@ -206,7 +209,7 @@ module _ {L : Lent} {N : Now} {r : Aim} (a : AtRecord L N r) where
   nearer e = omega (arith, ap (λ (z : Tally). z .place) e, a .more)
 
   -- before a record that is over the allowance
-  ends-over : L .allowance - t .moves < r .moves → Ends (number L) (L .slots) (L .forecast) (L .bytes) (L .allowance) (backAt N (Refused AllowancePassed)) (N .slots)
+  ends-over : L .allowance - t .moves < r .moves → Ends (number L) (L .slots) (L .forecast) (L .bytes) (L .allowance) (backAt N (Refused AllowancePassed)) (N .slots) (N .table)
   ends-over h =
       ended g (Refused AllowancePassed) (here ∙ work-over (of L) (L .allowance) q _ (room N) t good (omega (arith, h, a .aimed .moves, g .moves)))
       (λ e. absurd (omega (arith, e)))
@@ -219,7 +222,7 @@ module _ {L : Lent} {N : Now} {r : Aim} (a : AtRecord L N r) where
           ]
 
   -- at a bad record
-  ends-stop : isStop (r .verdict) ≡ true → Ends (number L) (L .slots) (L .forecast) (L .bytes) (L .allowance) (backAt N (r .verdict)) (N .slots)
+  ends-stop : isStop (r .verdict) ≡ true → Ends (number L) (L .slots) (L .forecast) (L .bytes) (L .allowance) (backAt N (r .verdict)) (N .slots) (N .table)
   ends-stop e =
       elim (tested (isBad q)) [
         | inl b ↦
@@ -230,7 +233,7 @@ module _ {L : Lent} {N : Now} {r : Aim} (a : AtRecord L N r) where
 
   -- either way, where it halts the run
   pub ends-halt : isStop (comesTo (L .allowance - N .tally .moves) r) ≡ true
-      → Ends (number L) (L .slots) (L .forecast) (L .bytes) (L .allowance) (backAt N (comesTo (L .allowance - N .tally .moves) r)) (N .slots)
+      → Ends (number L) (L .slots) (L .forecast) (L .bytes) (L .allowance) (backAt N (comesTo (L .allowance - N .tally .moves) r)) (N .slots) (N .table)
   ends-halt e =
       elim (decLt left (r .moves)) [
         | yes h ↦ subst Back (sym (comes-over left r h)) (ends-over h)
@@ -243,7 +246,7 @@ module _ {L : Lent} {N : Now} {r : Aim} (a : AtRecord L N r) where
       left = L .allowance - N .tally .moves
 
       Back : Verdict → Type 0
-      Back v = Ends (number L) (L .slots) (L .forecast) (L .bytes) (L .allowance) (backAt N v) (N .slots)
+      Back v = Ends (number L) (L .slots) (L .forecast) (L .bytes) (L .allowance) (backAt N v) (N .slots) (N .table)
 
 -- else it goes on
 pub record OnRecord (L : Lent) (N : Now) (r : Aim) : Type 0 where
@@ -314,8 +317,8 @@ module _ {L : Lent} {N : Now} {r : Aim} (w : OnRecord L N r) where
             ∙ ap (λ (S : Shares). outcome S p (roomOf (L .slots) (L .forecast)) .answer .number) (sym (a .going .shares-lent))
       ]
 
-  pub goes-on : {slots′ bounds′ counts′ : List ℕ} {F′ : Forecast} → Turned (outcome (sharesAt (L .shape)) (asks L N) (roomOf (N .slots) (N .forecast))) slots′ F′ bounds′ counts′ (L .shape) (keysOf (N .keys) r)
-      → Going L (record { slots = slots′; forecast = F′; bounds = bounds′; counts = counts′; keys = keysOf (N .keys) r; last = r .verdict; tally = nextOf (N .tally) r })
+  pub goes-on : {slots′ bounds′ table′ : List ℕ} {F′ : Forecast} → Turned (outcome (sharesAt (L .shape)) (asks L N) (roomOf (N .slots) (N .forecast))) slots′ F′ bounds′ table′ (L .shape) (keysOf (N .keys) r)
+      → Going L (record { slots = slots′; forecast = F′; bounds = bounds′; table = table′; keys = keysOf (N .keys) r; last = r .verdict; tally = nextOf (N .tally) r })
   goes-on d = record {
     stands = d .stands;
     shown = d .shown;

@@ -1,4 +1,4 @@
--- One turn of a run: a request that has been decided, and acted on where it is accepted. List, forecast, bounds and counts then stand again.
+-- One turn of a run: a request that has been decided, and acted on where it is accepted. List, forecast, bounds and table then stand again.
 use mathlib.Core.Path.{_≡_, refl, sym, ap, ap₂, _∙_, subst}
 use mathlib.Core.Bool.{Bool, true, false, not, _&&_}
 use mathlib.Core.Option.{Option}
@@ -24,7 +24,7 @@ use Rattle.rules.specs.declared.Profile.{Profile}
 use Rattle.rules.specs.Profiles.{numberOf, profileOf}
 use Rattle.rules.specs.Shares.{Shares, shares, capacity}
 use Rattle.rules.specs.Placing.{Room, Outcome, refusedBy, settled, insertKey, deleteKey, outcome}
-use Rattle.rules.specs.Checks.{check}
+use Rattle.rules.specs.Checks.{checkBoth}
 use Rattle.rules.specs.Calls.{roomOf}
 use Rattle.rules.specs.Runs.{isBad}
 use Rattle.rules.proofs.Sharing.Profiles.{profile-named, number-known}
@@ -105,7 +105,7 @@ pub some-key : (S : Shares) (b : Bool) (y : ℕ) (R : Room) (n : ℕ) → Good S
 some-key S true y R n G e z f = absurd (subst T f tt)
 some-key S false y R n G e z f = omega (arith, length-delete S y R G z, e)
 
-module _ {slots : List ℕ} {F : Forecast} {bounds counts : List ℕ} {k : Shape} {q : Request} {n : ℕ} {r : Aim} (t : Turning slots F bounds counts k q n r) where
+module _ {slots : List ℕ} {F : Forecast} {bounds table : List ℕ} {k : Shape} {q : Request} {n : ℕ} {r : Aim} (t : Turning slots F bounds table k q n r) where
   abbrev S : Shares
   S = sharesAt k
 
@@ -120,7 +120,7 @@ module _ {slots : List ℕ} {F : Forecast} {bounds counts : List ℕ} {k : Shape
     pub refused-moves : r .moves ≡ 0
     refused-moves = t .aimed .moves ∙ ap (λ (o : Outcome). o .answer .moves) refused-turn
 
-    pub turned-refused : Turned (outcome S q R) slots F bounds counts k (keysOf n r)
+    pub turned-refused : Turned (outcome S q R) slots F bounds table k (keysOf n r)
     turned-refused = record {
       stands = subst (Stands slots F k) (sym (keys-kept n r e)) (t .stands);
       shown = t .shown;
@@ -139,7 +139,7 @@ module _ {slots : List ℕ} {F : Forecast} {bounds counts : List ℕ} {k : Shape
     same : outcome S q R ≡ outcomeOf slots F k r
     same = ap (λ (p : Request). outcome S p R) (t .aimed .request is)
 
-    pub acting : Acting slots F bounds counts k r
+    pub acting : Acting slots F bounds table k r
     acting = record {
       keys = n;
       stands = t .stands;
@@ -162,9 +162,9 @@ module _ {slots : List ℕ} {F : Forecast} {bounds counts : List ℕ} {k : Shape
     many =
         rw e (keys-then S (r .grows) (r .key) R n (good-stands (t .stands)) (keys-stand (t .stands)) (acting .accepts .accepted))
 
-    pub turned-accepted : {slots′ bounds′ counts′ : List ℕ} {F′ : Forecast} → Acted (outcomeOf slots F k r) slots′ bounds′ counts′ F′
-        → Turned (outcome S q R) slots′ F′ bounds′ counts′ k (keysOf n r)
-    turned-accepted {slots′ = slots′} {bounds′ = bounds′} {counts′ = counts′} {F′ = F′} d =
+    pub turned-accepted : {slots′ bounds′ table′ : List ℕ} {F′ : Forecast} → Acted (outcomeOf slots F k r) slots′ bounds′ table′ F′
+        → Turned (outcome S q R) slots′ F′ bounds′ table′ k (keysOf n r)
+    turned-accepted {slots′ = slots′} {bounds′ = bounds′} {table′ = table′} {F′ = F′} d =
         let O : Room = outcomeOf slots F k r .room in
         let h = height-stands (t .stands) in
         let P : Profile = k .profile in
@@ -172,14 +172,14 @@ module _ {slots : List ℕ} {F : Forecast} {bounds counts : List ℕ} {k : Shape
         let room : roomOf slots′ F′ ≡ O = ap₂ roomOf (d .left .slots-left) (d .forecast) ∙ room-render (numberOf P) (number-known P) (k .height) (h .0) (h .1) O made in
         record {
           stands = record {
-            passes = ap₂ (check (numberOf P)) (d .left .slots-left) (d .forecast) ∙ check-render (numberOf P) (number-known P) (k .height) (h .0) (h .1) O made;
+            passes = ap₂ (checkBoth (numberOf P)) (d .left .slots-left) (d .forecast) ∙ check-render (numberOf P) (number-known P) (k .height) (h .0) (h .1) O made;
             height = ap (λ (l : List ℕ). heightOf (length l)) (d .left .slots-left) ∙ height-render (numberOf P) (number-known P) (k .height) (h .0) (h .1) O made;
             shape = t .stands .shape;
             many = ap (λ (l : List ℕ). length (live l)) (d .left .slots-left)
                 ∙ ap (λ (l : List ℕ). length l) (live-render (O .segments) (good .proper .listed .live)) ∙ many;
           };
           shown = ap (λ (f : Forecast). forecastOf (usedCells f)) (d .forecast) ∙ ap forecastOf (used-forecastOf (O .cells)) ∙ sym (d .forecast);
-          index = subst (λ (ss : Segments). Indexed ss slots′ bounds′ counts′) (sym (ap (λ (z : Room). z .segments) room)) (d .left .index);
+          index = subst (λ (ss : Segments). Indexed ss slots′ bounds′ table′) (sym (ap (λ (z : Room). z .segments) room)) (d .left .index);
           room = room ∙ sym (ap (λ (o : Outcome). o .room) same);
         }
 
@@ -192,7 +192,7 @@ module _ {slots : List ℕ} {F : Forecast} {bounds counts : List ℕ} {k : Shape
       go false e = swept-refused e
 
 -- equal lists and forecasts serve as well
-pub again : {o : Outcome} {slots slots′ bounds bounds′ counts counts′ : List ℕ} {F F′ : Forecast} {k : Shape} {n : ℕ} → slots′ ≡ slots → F′ ≡ F → bounds′ ≡ bounds → counts′ ≡ counts
-    → Turned o slots F bounds counts k n → Turned o slots′ F′ bounds′ counts′ k n
+pub again : {o : Outcome} {slots slots′ bounds bounds′ table table′ : List ℕ} {F F′ : Forecast} {k : Shape} {n : ℕ} → slots′ ≡ slots → F′ ≡ F → bounds′ ≡ bounds → table′ ≡ table
+    → Turned o slots F bounds table k n → Turned o slots′ F′ bounds′ table′ k n
 again {o = o} {k = k} {n = n} p q b c t =
     subst (λ (z : List ℕ × Forecast × List ℕ × List ℕ). Turned o (z .0) (z .1) (z .2) (z .3) k n) (sym (λ i. (p i, q i, b i, c i))) t

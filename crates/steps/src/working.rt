@@ -14,7 +14,7 @@ use shares::Shape;
 // The records in order: each is decided, then acted on. `plan` is a buffer for the plans of sweeps.
 pub fn work(
     list: &mut [u64],
-    counts: &mut [usize],
+    table: &mut [usize],
     bounds: &mut [u64],
     plan: &mut [usize],
     mut forecast: Forecast,
@@ -23,13 +23,13 @@ pub fn work(
     requests: &[u8],
     allowance: u64,
 ) -> Worked
-    requires { ⌜ Stands (now list) forecast shape keys × Indexed (segmentsOf (now list)) (now list) (now bounds) (now counts) × (length (now plan) ≡ 64) ⌝ }
-    ensures { λ r. ⌜ Ends (numberOf (shape .profile)) (now (list .entry)) forecast (now (requests .entry)) allowance r (now (list .exit)) ⌝ }
+    requires { ⌜ Stands (now list) forecast shape keys × Indexed (segmentsOf (now list)) (now list) (now bounds) (now table) × (length (now plan) ≡ 64) ⌝ }
+    ensures { λ r. ⌜ Ends (numberOf (shape .profile)) (now (list .entry)) forecast (now (requests .entry)) allowance r (now (list .exit)) (now (table .exit)) ⌝ }
 {
     let mut last = Verdict::Accepted;
     let mut tally = tallies::none();
     while tally.place < requests.len() {
-        let aim = tallies::aim_at(list, bounds, counts, shape, keys, requests, tally.place);
+        let aim = tallies::aim_at(list, table, bounds, shape, keys, requests, tally.place);
         let left = allowance - tally.moves;
         if tallies::halts(aim, left) {
             let stop = tallies::within(aim, left);
@@ -46,7 +46,7 @@ pub fn work(
         let done = tallies::is_accepted(verdict);
         if done {
             forecast = acts::note(forecast, shape, aim);
-            acts::act(list, counts, bounds, plan, forecast, shape, aim);
+            acts::act(list, table, bounds, plan, forecast, shape, aim);
             if aim.level != 0 {
                 forecast = acts::retarget(forecast, bounds, aim);
             }

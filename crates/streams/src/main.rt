@@ -1,5 +1,5 @@
 // Works the request streams of data/ through the run, in either profile and in none, each on a list of 256 slots made empty, and writes for each its name, the reply, the
-// four totals, their difference to the reading before the run, and the number that the check gives of what it left.
+// four totals, their difference to the reading before the run, the number that the check gives of what it left, and the table then.
 use forecast::Forecast;
 use libc::STDOUT_FILENO;
 use rules::Tally;
@@ -21,6 +21,15 @@ fn four(name: &[u8], totals: Totals) {
     told(b" ", totals.sweeps as u64);
 }
 
+fn entries(table: &[usize]) {
+    text(b" table");
+    let mut i = 0;
+    while i < table.len() {
+        told(b" ", table[i] as u64);
+        i += 1;
+    }
+}
+
 fn tell(tally: Tally, stop: u64, totals: Totals, added: Totals, check: u64) {
     told(b" worked ", tally.worked as u64);
     told(b" refused ", tally.refused as u64);
@@ -30,7 +39,6 @@ fn tell(tally: Tally, stop: u64, totals: Totals, added: Totals, check: u64) {
     four(b" totals ", totals);
     four(b" added ", added);
     told(b" check ", check);
-    text(b"\n");
 }
 
 // Works one stream and hands the forecast back.
@@ -38,6 +46,7 @@ fn stream(
     profile: u64,
     name: &[u8],
     list: &mut [u64],
+    table: &mut [usize],
     forecast: Forecast,
     allowance: u64,
 ) -> Forecast {
@@ -50,10 +59,18 @@ fn stream(
         moved: 4294967290,
         sweeps: 0,
     };
-    let done = run::running::run_with(profile, list, forecast, &input[..n], allowance, before);
+    let done = run::running::run_with(
+        profile,
+        list,
+        table,
+        forecast,
+        &input[..n],
+        allowance,
+        before,
+    );
     let reply = done.reply;
     let left = reply.forecast;
-    let answer = list::calls::check(profile, list, left);
+    let answer = list::calls::check(profile, list, table, left);
     let check = telling::check_number(answer);
     text(name);
     let after = done.totals;
@@ -65,14 +82,24 @@ fn stream(
         run::totals::difference(after, before),
         check,
     );
+    entries(table);
+    text(b"\n");
     left
 }
 
 // Works one stream on a list made empty.
 fn fresh(profile: u64, name: &[u8], allowance: u64) {
     let mut slots = [0u64; 256];
-    let made = list::calls::make(profile, &mut slots);
-    stream(profile, name, &mut slots, made.forecast, allowance);
+    let mut table = [0usize; 7];
+    let made = list::calls::make(profile, &mut slots, &mut table);
+    stream(
+        profile,
+        name,
+        &mut slots,
+        &mut table,
+        made.forecast,
+        allowance,
+    );
 }
 
 fn main() {
@@ -85,11 +112,14 @@ fn main() {
     fresh(1, b"moving", 54);
     fresh(2, b"moving", 1000);
     let mut slots = [0u64; 256];
-    let made = list::calls::make(1, &mut slots);
-    let left = stream(1, b"moving", &mut slots, made.forecast, 1000);
-    let again = stream(1, b"again", &mut slots, left, 1000);
-    stream(1, b"empty", &mut slots, again, 0);
-    stream(3, b"empty", &mut slots, again, 0);
+    let mut table = [0usize; 7];
+    let made = list::calls::make(1, &mut slots, &mut table);
+    let left = stream(1, b"moving", &mut slots, &mut table, made.forecast, 1000);
+    let again = stream(1, b"again", &mut slots, &mut table, left, 1000);
+    stream(1, b"empty", &mut slots, &mut table, again, 0);
+    stream(3, b"empty", &mut slots, &mut table, again, 0);
+    let mut short = [0usize; 6];
+    stream(1, b"moving", &mut slots, &mut short, again, 1000);
     let mut wrong = [0u64; 255];
-    stream(1, b"moving", &mut wrong, again, 1000);
+    stream(1, b"moving", &mut wrong, &mut table, again, 1000);
 }

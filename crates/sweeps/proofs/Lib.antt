@@ -3,3 +3,4 @@ pub mod SweptLevel
 pub mod SweptPlan
 pub mod SweptKept
 pub mod SweptLeft
+pub mod Recounted

@@ -1,7 +1,7 @@
 -- What the plan of a sweep stands on: of an accepted request that sweeps a window, the window with its limits, its marks, and its keys then.
 use mathlib.Core.Path.{_≡_, refl, sym, ap, ap₂, subst, _∙_}
 use mathlib.Core.Bool.{Bool}
-use mathlib.Core.List.{List, [], _++_, map}
+use mathlib.Core.List.{List, _++_, map}
 use Prim.Native.Nat.{ℕ, zero, suc, _+_, _*_, _/_, _^_, _≤_, _<_}
 use native.Mathlib.Nat.{le-trans, mul-le-mul-left, pow-le-pow-right}
 use native.Mathlib.Omega.{arith}
@@ -9,7 +9,6 @@ use lib.Dec.{eqb}
 use lib.ListN.{length, getD, length-map}
 use lib.Seq.{take-all, take-append-le}
 use Rattle.lists.specs.Choice.{if_then_else_}
-use Rattle.lists.proofs.Members.{at-mem}
 use Rattle.slots.specs.Segments.{Segments, keys, segmentsOf}
 use Rattle.slots.specs.Windows.{start, window, count}
 use Rattle.slots.proofs.Windows.{start-le, lt-end, start-fits}
@@ -33,6 +32,7 @@ use Rattle.planning.specs.Plans.{Planned as WithinLimits}
 use Rattle.planning.proofs.Parts.{whole-part}
 use Rattle.marks.specs.declared.Window.{Window}
 use Rattle.marks.specs.Marking.{after, Marking}
+use Rattle.seats.proofs.Indexes.{few-segments, table-holds, counts-held, count-small}
 use Rattle.aims.specs.declared.Aim.{Aim}
 use Rattle.aims.proofs.Standing.{height-stands, lawful-stands, segments-stand, long-stands}
 use Rattle.sweeps.specs.Acts.{cellsFor, doneIn, Acting, Noted, planFor, Planned}
@@ -47,7 +47,7 @@ high-fits S L zero p h = absurd (omega arith)
 high-fits S L (suc l) p h = omega (arith, L .gaps l h)
 
 -- THE WINDOW that an accepted request sweeps
-module _ {slots : List ℕ} {F : Forecast} {bounds counts : List ℕ} {k : Shape} {r : Aim} (A : Acting slots F bounds counts k r) (level : 1 ≤ r .level) where
+module _ {slots : List ℕ} {F : Forecast} {bounds table : List ℕ} {k : Shape} {r : Aim} (A : Acting slots F bounds table k r) (level : 1 ≤ r .level) where
   abbrev S : Shares
   S = sharesAt k
 
@@ -90,15 +90,14 @@ module _ {slots : List ℕ} {F : Forecast} {bounds counts : List ℕ} {k : Shape
         omega (arith, first-start)
 
     pub first-few : first ≤ 64
-    first-few = omega (arith, ends, A .index .few)
+    first-few = omega (arith, ends, few-segments (A .index))
 
-    -- are in the list and in the counts
-    pub lent : (64 * (first + n) ≤ length slots) × (first + n ≤ length counts) × ((j : ℕ) → j < first + n → getD counts j 0 ≤ 64)
+    -- are in the list and in the table
+    pub lent : (64 * (first + n) ≤ length slots) × (first + n ≤ length table) × ((j : ℕ) → j < first + n → getD table j 0 ≤ 64)
     lent = (
       omega (arith, ends, segments-stand (A .stands), long-stands (A .stands)),
-      omega (arith, ends, A .index .long),
-      λ j h. let i : j < length (segmentsOf slots) = omega (arith, ends) in
-          omega (arith, A .index .count j i, A .index .shows .fits (getD (segmentsOf slots) j []) (at-mem (segmentsOf slots) j [] i)),
+      omega (arith, ends, table-holds (A .index)),
+      λ j h. count-small (A .index) j (omega (arith, ends)),
     )
 
     abbrev w : Window
@@ -116,8 +115,8 @@ module _ {slots : List ℕ} {F : Forecast} {bounds counts : List ℕ} {k : Shape
 
     -- with the request noted its keys have their marks
     module _ {N : Forecast} (noted : Noted slots F k r N) where
-      pub marking : Marking slots counts N (windowOf first n (r .key) (r .grows)) (segmentsOf slots)
-      marking = subst (λ (v : Window). Marking slots counts N v (segmentsOf slots)) same-window (swept .marks slots counts N (A .index .shows) (A .index .count) (noted .is))
+      pub marking : Marking slots table N (windowOf first n (r .key) (r .grows)) (segmentsOf slots)
+      marking = subst (λ (v : Window). Marking slots table N v (segmentsOf slots)) same-window (swept .marks slots table N (A .index .shows) (counts-held (A .index)) (noted .is))
 
       abbrev ws : List ℕ
       ws = map (weight (usedCells N)) (after (windowOf first n (r .key) (r .grows)) (segmentsOf slots))

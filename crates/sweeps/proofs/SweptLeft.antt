@@ -5,7 +5,7 @@ use mathlib.Core.List.{List, [], map, List·Memᴰ as Mem}
 use Prim.Native.Nat.{ℕ, _+_, _-_, _*_, _/_, _^_, _≤_, _<_}
 use native.Mathlib.Omega.{arith}
 use lib.Dec.{T, not-T, ltb}
-use lib.ListN.{length, take, drop, getD, set, length-map, length-drop, List·getD-map}
+use lib.ListN.{length, take, drop, getD, set, length-map, length-drop}
 use lib.Seq.{length-take-le}
 use borrow.Rule.Slice.PartMut.{putMid}
 use Rattle.lists.specs.Lists.{All, total, splice, deal}
@@ -36,17 +36,19 @@ use Rattle.rules.proofs.Sweeping.SweptWindow.{splice-set}
 use Rattle.rules.proofs.Requests.StaysGood.{Good, good-next}
 use Rattle.shares.specs.declared.Shape.{Shape}
 use Rattle.shares.specs.Rows.{sharesAt}
+use Rattle.levels.specs.Tables.{tableOf}
 use Rattle.seats.specs.Bounds.{Indexed, Bounded, Near}
+use Rattle.seats.proofs.Indexes.{slots-long, table-holds, counts-held}
 use Rattle.bounding.proofs.Kept.{Resown, indexed-swept}
 use Rattle.sowing.specs.Sown.{Planted}
 use Rattle.aims.specs.declared.Aim.{Aim}
 use Rattle.records.specs.Asked.{asked}
-use Rattle.aims.proofs.Standing.{height-stands, lawful-stands, good-stands, segments-stand, long-stands}
+use Rattle.aims.proofs.Standing.{height-stands, lawful-stands, good-stands, segments-stand}
 use Rattle.sweeps.specs.Acts.{cellsFor, outcomeOf, Acting, planFor, Planned, Left}
 use Rattle.sweeps.proofs.SweptLevel.{Sweeps, acting-sweeps}
 use Rattle.sweeps.proofs.SweptPlan.{plan-fits}
 
-module _ {slots bounds counts : List ℕ} {F : Forecast} {k : Shape} {r : Aim} (A : Acting slots F bounds counts k r) (some : 1 ≤ r .level) where
+module _ {slots bounds table : List ℕ} {F : Forecast} {k : Shape} {r : Aim} (A : Acting slots F bounds table k r) (some : 1 ≤ r .level) where
   abbrev ss : Segments
   ss = segmentsOf slots
 
@@ -87,15 +89,8 @@ module _ {slots bounds counts : List ℕ} {F : Forecast} {k : Shape} {r : Aim} (
   many : length (segmentsOf slots) ≡ 2 ^ k .height
   many = segments-stand (A .stands)
 
-  -- no segment holds more than 64 keys
-  pub counts-few : (j : ℕ) → j < length (segmentsOf slots) → getD counts j 0 ≤ 64
-  counts-few j h = omega (arith, A .index .count j h, A .index .shows .fits (getD ss j []) (at-mem ss j [] h))
-
   pub at-few : r .at ≤ 64
   at-few = omega (arith, A .accepts .at, only-length (λ j. ltb j y) (getD ss s []), A .index .shows .fits (getD ss s []) (at-mem ss s [] (acts .between .0)))
-
-  pub slots-long : length slots ≡ 64 * length (segmentsOf slots)
-  slots-long = long-stands (A .stands) ∙ ap (λ (j : ℕ). 64 * j) (sym many)
 
   -- THE WINDOW: n segments from f on
   module _ (n f : ℕ) (size : n ≡ 2 ^ r .level) (begins : f ≡ r .segment / n * n) where
@@ -112,10 +107,10 @@ module _ {slots bounds counts : List ℕ} {F : Forecast} {k : Shape} {r : Aim} (
     ends = omega (arith, f-start, size, many, start-fits l (k .height) s (acts .small .to) (omega (arith, many, acts .between .0)))
 
     pub slots-lent : 64 * f + 64 * n ≤ length slots
-    slots-lent = omega (arith, slots-long, ends)
+    slots-lent = omega (arith, slots-long (A .index), ends)
 
-    pub counts-lent : f + n ≤ length counts
-    counts-lent = omega (arith, ends, A .index .long)
+    pub counts-lent : f + n ≤ length table
+    counts-lent = omega (arith, ends, table-holds (A .index))
 
     window-is : (zs : Segments) → window (r .level) (r .segment) zs ≡ take n (drop f zs)
     window-is zs = ap₂ (λ (i j : ℕ). take i (drop j zs)) (sym size) (sym f-start)
@@ -142,12 +137,12 @@ module _ {slots bounds counts : List ℕ} {F : Forecast} {k : Shape} {r : Aim} (
     lent-shows : Shows (segmentsOf (take (64 * f + 64 * n - 64 * f) (drop (64 * f) slots))) (take (64 * f + 64 * n - 64 * f) (drop (64 * f) slots))
     lent-shows = record { whole = lent-is ∙ ap (render 0) (sym lent-segments); fits = rw lent-segments part-fits; listed = rw lent-segments part-listed }
 
-    counts-are : take (f + n - f) (drop f counts) ≡ map length (take n (drop f (segmentsOf slots)))
+    counts-are : take (f + n - f) (drop f table) ≡ map length (take n (drop f (segmentsOf slots)))
     counts-are =
         let e : f + n - f ≡ n = omega arith in
-        ap (λ (j : ℕ). take j (drop f counts)) e ∙ counts-within ss counts (A .index .count) f n ends counts-lent
+        ap (λ (j : ℕ). take j (drop f table)) e ∙ counts-within ss table (counts-held (A .index)) f n ends counts-lent
 
-    counts-total : total (take (f + n - f) (drop f counts)) ≡ length (keys (take n (drop f (segmentsOf slots))))
+    counts-total : total (take (f + n - f) (drop f table)) ≡ length (keys (take n (drop f (segmentsOf slots))))
     counts-total = ap total counts-are ∙ sym (length-joined part)
 
     -- the key is not yet there, or is
@@ -193,24 +188,24 @@ module _ {slots bounds counts : List ℕ} {F : Forecast} {k : Shape} {r : Aim} (
       limits : Limits (sharesAt k) (r .level) (r .level) (length ws)
       limits = subst (Limits S l l) (ap (λ (z : Segments). length (keys (window l s z))) (acts .done) ∙ ap length keys-done ∙ sym ws-long) (acts .small .within)
 
-      fits : (j : ℕ) → getD (take n ns) j 0 ≤ 64
+      pub fits : (j : ℕ) → getD (take n ns) j 0 ≤ 64
       fits j = rw plan-is (plan-fits S (lawful-stands (A .stands)) l (frontWeight l s cs) ws (acts .small .to) limits j)
 
       -- what the sweep asks for
-      pub planted : (b : ℕ) → b ≡ total (take (r .segment - f) (drop f counts)) → n ≤ 64
-          → Planted (take (64 * f + 64 * n - 64 * f) (drop (64 * f) slots)) (take (f + n - f) (drop f counts)) (take n ns) (b + r .at) (r .key) (r .grows)
+      pub planted : (b : ℕ) → b ≡ total (take (r .segment - f) (drop f table)) → n ≤ 64
+          → Planted (take (64 * f + 64 * n - 64 * f) (drop (64 * f) slots)) (take (f + n - f) (drop f table)) (take n ns) (b + r .at) (r .key) (r .grows)
       planted b e h = record {
         shows = lent-shows;
         counted = counts-are ∙ ap (map length) (sym lent-segments);
         long = plan-long ∙ sym counts-long;
         few = omega (arith, counts-long);
         fits = fits;
-        place = rw lent-segments (omega (arith, e, A .accepts .at, sum-within ss counts (A .index .count) f (s - f) (omega (arith, from, to, ends)) (omega (arith, from, to, counts-lent)), below-within f n ss s from to y (acts .between)));
+        place = rw lent-segments (omega (arith, e, A .accepts .at, sum-within ss table (counts-held (A .index)) f (s - f) (omega (arith, from, to, ends)) (omega (arith, from, to, counts-lent)), below-within f n ss s from to y (acts .between)));
         grown = λ t. (omega (arith, plan-total, counts-total, more t), rw lent-segments (fresh-part t));
         shrunk = λ t. (omega (arith, plan-total, counts-total, less t), rw lent-segments (mem→member y (keys part) (there-part t)));
       }
         where
-          counts-long : length (take (f + n - f) (drop f counts)) ≡ n
+          counts-long : length (take (f + n - f) (drop f table)) ≡ n
           counts-long = ap length counts-are ∙ length-map part length ∙ part-long
 
       -- WHAT IT LEAVES
@@ -228,8 +223,8 @@ module _ {slots bounds counts : List ℕ} {F : Forecast} {k : Shape} {r : Aim} (
       dealt-long : length (deal (take n ns) ks) ≡ n
       dealt-long = length-deal (take n ns) ks ∙ plan-long
 
-      dealt-counts : (j : ℕ) → j < length (deal (take n ns) ks) → getD (take n ns) j 0 ≡ length (getD (deal (take n ns) ks) j [])
-      dealt-counts j h = ap (λ (x : List ℕ). getD x j 0) (sym (counts-deal (take n ns) ks (sym plan-total))) ∙ List·getD-map length dealt j []
+      dealt-counts : map length (deal (take n ns) ks) ≡ take n ns
+      dealt-counts = counts-deal (take n ns) ks (sym plan-total)
 
       abbrev resown : Resown ss
       resown = record {
@@ -238,13 +233,10 @@ module _ {slots bounds counts : List ℕ} {F : Forecast} {k : Shape} {r : Aim} (
         i = f;
         n = n;
         window = dealt;
-        counts = take n ns;
         from = from;
         to = to;
         many = dealt-long;
-        counted = plan-long;
         within = ends;
-        each = dealt-counts;
       }
 
       good-left : Good (sharesAt k) (outcomeOf slots F k r .room)
@@ -267,16 +259,21 @@ module _ {slots bounds counts : List ℕ} {F : Forecast} {k : Shape} {r : Aim} (
           listed = good-left .proper .listed;
         }
 
-        pub swept-left : (bounds′ counts′ : List ℕ) → counts′ ≡ splice f (length (take n ns)) (take n ns) counts
+        pub swept-left : (bounds′ table′ : List ℕ)
+            → ((h : ℕ) (zs window : Segments) → length zs ≡ 2 ^ h → table ≡ tableOf h zs → map length window ≡ take n ns → table′ ≡ tableOf h (splice f (length (take n ns)) window zs))
             → ((m : ℕ) (zs : Segments) → m ≤ f + n → Shows zs (putMid (64 * f) (64 * f + 64 * n - 64 * f) slots last) → length zs ≤ 64 → Near m zs f (f + n) bounds → Bounded m zs bounds′)
-            → Left (outcomeOf slots F k r) (putMid (64 * f) (64 * f + 64 * n - 64 * f) slots last) bounds′ counts′
-        swept-left bounds′ counts′ kept promise = record {
+            → Left (outcomeOf slots F k r) (putMid (64 * f) (64 * f + 64 * n - 64 * f) slots last) bounds′ table′
+        swept-left bounds′ table′ recounts promise = record {
           slots-left = slots-left;
           index =
-              subst (Indexed (outcomeOf slots F k r .room .segments) after bounds′) (sym counts-left)
-              (subst (λ (z : Segments). Indexed z after bounds′ (splice f n (take n ns) (set counts s (length new)))) (sym left-is)
-              (indexed-swept ss slots bounds counts (A .index) after bounds′ resown (subst (λ (z : Segments). Shows z after) left-is shows-left) promise));
+              subst (λ (z : Segments). Indexed z after bounds′ table′) (sym left-is)
+              (indexed-swept ss slots bounds table (A .index) after bounds′ table′ resown (subst (λ (z : Segments). Shows z after) left-is shows-left) promise table-left);
         }
           where
-            counts-left : counts′ ≡ splice f n (take n ns) (set counts s (length new))
-            counts-left = kept ∙ ap (λ (j : ℕ). splice f j (take n ns) counts) plan-long ∙ sym (splice-set f n (take n ns) counts s (length new) from to)
+            ix : Indexed ss slots bounds table
+            ix = A .index
+
+            table-left : table′ ≡ tableOf (ix .height) (splice f n dealt ms)
+            table-left =
+                recounts (ix .height) ss dealt (ix .size) (ix .right) dealt-counts
+                ∙ ap (tableOf (ix .height)) (ap (λ (j : ℕ). splice f j dealt ss) plan-long ∙ sym (splice-set f n dealt ss s new from to))

@@ -49,8 +49,8 @@ pub record Sweeps (S : Shares) (R : Room) (g : Bool) (y l s : ℕ) : Type 0 wher
   pub between : Between y (R .segments) s
   pub fresh : g ≡ true → T (not (member y (keys (R .segments))))
   pub there : g ≡ false → Mem y (getD (R .segments) s [])
-  pub marks : (slots counts : List ℕ) (N : Forecast) → Shows (R .segments) slots → CountsOf (R .segments) counts → usedCells N ≡ cellsFor S g y R
-      → Marking slots counts N (record { first = start l s; n = 2 ^ l; key = y; grows = g }) (R .segments)
+  pub marks : (slots table : List ℕ) (N : Forecast) → Shows (R .segments) slots → CountsOf (R .segments) table → usedCells N ≡ cellsFor S g y R
+      → Marking slots table N (record { first = start l s; n = 2 ^ l; key = y; grows = g }) (R .segments)
   pub front : frontWeight l s (cellsFor S g y R) ≤ 12
 
 -- a level that is found
@@ -122,7 +122,7 @@ module _ (S : Shares) (R : Room) (G : Good S R) (low : S .height ≤ 6) (y l : �
     between = home-in y ss g (omega (arith, G .proper .size, pow-pos (S .height))) (a .fresh);
     fresh = λ _. a .fresh;
     there = λ t. absurd (apart t);
-    marks = λ slots counts N sh c q. marking-insert S R G low slots counts sh c N (start l (home y ss)) (2 ^ l) y q (a .key) (a .fresh);
+    marks = λ slots table N sh c q. marking-insert S R G low slots table sh c N (start l (home y ss)) (2 ^ l) y q (a .key) (a .fresh);
     front = omega (arith, low, front-ruled _ _ _ (noted-good S y R G) l (home y ss));
   }
     where
@@ -136,7 +136,7 @@ module _ (S : Shares) (R : Room) (G : Good S R) (low : S .height ≤ 6) (y l : �
     between = here-in y ss g m;
     fresh = λ t. absurd (apart-back t);
     there = λ _. segment-mem ss y (g .live y m) m .1;
-    marks = λ slots counts N sh c q. marking-delete S R G low slots counts sh c N (start l (segmentOf ss y)) (2 ^ l) y q (mem→member y (keys (window l (segmentOf ss y) ss)) (there-window y ss g m l));
+    marks = λ slots table N sh c q. marking-delete S R G low slots table sh c N (start l (segmentOf ss y)) (2 ^ l) y q (mem→member y (keys (window l (segmentOf ss y) ss)) (there-window y ss g m l));
     front = omega (arith, low, front-ruled _ _ _ (dropped-good S y R G) l (segmentOf ss y));
   }
     where
@@ -147,7 +147,7 @@ module _ (S : Shares) (R : Room) (G : Good S R) (low : S .height ≤ 6) (y l : �
       m = member→mem y (keys (R .segments)) (a .present)
 
 -- AN ACCEPTED REQUEST that sweeps does
-pub acting-sweeps : {slots : List ℕ} {F : Forecast} {bounds counts : List ℕ} {k : Shape} {r : Aim} → Acting slots F bounds counts k r → 1 ≤ r .level
+pub acting-sweeps : {slots : List ℕ} {F : Forecast} {bounds table : List ℕ} {k : Shape} {r : Aim} → Acting slots F bounds table k r → 1 ≤ r .level
     → Sweeps (sharesAt k) (roomOf slots F) (r .grows) (r .key) (r .level) (r .segment)
 acting-sweeps {slots} {F} {k = k} {r = r} A level =
     subst (Sweeps (sharesAt k) (roomOf slots F) (r .grows) (r .key) (r .level)) (sym (A .accepts .segment))

@@ -37,11 +37,11 @@ doneIn false y ss = cutFrom y ss
 abbrev pub outcomeOf : List ℕ → Forecast → Shape → Aim → Outcome
 outcomeOf slots F k r = outcome (sharesAt k) (asked (r .grows) (r .key)) (roomOf slots F)
 
--- List and forecast pass the check, bounds and counts are at hand, and the request is accepted.
-pub record Acting (slots : List ℕ) (F : Forecast) (bounds counts : List ℕ) (k : Shape) (r : Aim) : Type 0 where
+-- List and forecast pass the check, bounds and table are at hand, and the request is accepted.
+pub record Acting (slots : List ℕ) (F : Forecast) (bounds table : List ℕ) (k : Shape) (r : Aim) : Type 0 where
   pub keys : ℕ
   pub stands : Stands slots F k keys
-  pub index : Indexed (segmentsOf slots) slots bounds counts
+  pub index : Indexed (segmentsOf slots) slots bounds table
   pub accepts : Accepts (sharesAt k) (roomOf slots F) r
   pub moves : r .moves ≡ outcomeOf slots F k r .answer .moves
 
@@ -59,12 +59,12 @@ planFor slots F k r =
 abbrev pub Planned : List ℕ → Forecast → Shape → Aim → List ℕ → Type 0
 Planned slots F k r plan = take (2 ^ r .level) plan ≡ planFor slots F k r
 
--- The segments of an outcome, with their bounds and counts.
-pub record Left (o : Outcome) (slots bounds counts : List ℕ) : Type 0 where
+-- The segments of an outcome, with their bounds and table.
+pub record Left (o : Outcome) (slots bounds table : List ℕ) : Type 0 where
   pub slots-left : slots ≡ render 0 (o .room .segments)
-  pub index : Indexed (o .room .segments) slots bounds counts
+  pub index : Indexed (o .room .segments) slots bounds table
 
 -- All that it leaves.
-pub record Acted (o : Outcome) (slots bounds counts : List ℕ) (F : Forecast) : Type 0 where
-  pub left : Left o slots bounds counts
+pub record Acted (o : Outcome) (slots bounds table : List ℕ) (F : Forecast) : Type 0 where
+  pub left : Left o slots bounds table
   pub forecast : F ≡ forecastOf (o .room .cells)

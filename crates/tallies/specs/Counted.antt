@@ -16,6 +16,7 @@ stopsRun Refusal.WrongLength = false
 stopsRun Refusal.WrongOrder = false
 stopsRun Refusal.TooManyKeys = false
 stopsRun Refusal.WrongForecast = false
+stopsRun Refusal.WrongTable = false
 stopsRun Refusal.KeyZero = false
 stopsRun Refusal.KeyPresent = false
 stopsRun Refusal.KeyAbsent = false

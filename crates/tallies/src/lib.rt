@@ -18,18 +18,18 @@ use shares::Shape;
 // What the record at a place comes to.
 pub fn aim_at(
     list: &[u64],
+    table: &[usize],
     bounds: &[u64],
-    counts: &[usize],
     shape: Shape,
     keys: usize,
     bytes: &[u8],
     place: usize,
 ) -> Aim
-    requires { ⌜ Known (now list) (now bounds) (now counts) shape keys × (place ≤ length (now bytes)) ⌝ }
+    requires { ⌜ Known (now list) (now bounds) (now table) shape keys × (place ≤ length (now bytes)) ⌝ }
     ensures { λ r. ⌜ ((F : Forecast) → Stands (now (list .entry)) F shape keys → Aimed (sharesAt shape) (requestOf (drop place (now (bytes .entry)))) (roomOf (now (list .entry)) F) r) ⌝ }
 {
     let request = records::request_of(&bytes[place..]);
-    aims::aiming::aim(list, bounds, counts, shape, request, keys)
+    aims::aiming::aim(list, table, bounds, shape, request, keys)
 }
 
 fn refusal_stops(refusal: Refusal) -> bool
@@ -41,6 +41,7 @@ fn refusal_stops(refusal: Refusal) -> bool
         Refusal::WrongOrder => false,
         Refusal::TooManyKeys => false,
         Refusal::WrongForecast => false,
+        Refusal::WrongTable => false,
         Refusal::KeyZero => false,
         Refusal::KeyPresent => false,
         Refusal::KeyAbsent => false,

@@ -4,12 +4,13 @@ use mathlib.Core.List.{List}
 use Prim.Native.Nat.{ℕ}
 use Rattle.forecast.specs.declared.Forecast.{Forecast}
 use Rattle.rules.specs.declared.Totals.{Totals}
+use Rattle.rules.specs.Lent.{Lent}
 use Rattle.told.specs.declared.ToldRun.{ToldRun}
 use Rattle.told.specs.Tells.{RunTells}
 
-module _ (profile : ℕ) (slots : List ℕ) (F : Forecast) (bytes : List ℕ) (allowance : ℕ) (T : Totals) where
-  pub told-one : (r r′ : ToldRun) (left left′ : List ℕ)
-      → RunTells profile slots F bytes allowance T r left → RunTells profile slots F bytes allowance T r′ left′ → (r ≡ r′) × (left ≡ left′)
+module _ (profile : ℕ) (L : Lent) (F : Forecast) (bytes : List ℕ) (allowance : ℕ) (T : Totals) where
+  pub told-one : (r r′ : ToldRun) (left left′ : Lent)
+      → RunTells profile L F bytes allowance T r left → RunTells profile L F bytes allowance T r′ left′ → (r ≡ r′) × (left ≡ left′)
   told-one r r′ left left′ a b = (
     λ i. record {
       told = record {
@@ -19,5 +20,5 @@ module _ (profile : ℕ) (slots : List ℕ) (F : Forecast) (bytes : List ℕ) (a
       };
       totals = (a .totals ∙ sym (b .totals)) i;
     },
-    a .slots-left ∙ sym (b .slots-left),
+    a .lent-left ∙ sym (b .lent-left),
   )

@@ -1,4 +1,5 @@
 // A run told in numbers, and over totals that are lent, as C programs take it.
+ghost use Rattle.rules.specs.Lent.{lend};
 ghost use Rattle.told.specs.Tells.{RunTells};
 use forecast::Forecast;
 use rules::Tally;
@@ -21,14 +22,15 @@ pub struct ToldRun {
 pub fn run_told(
     profile: u64,
     list: &mut [u64],
+    table: &mut [usize],
     forecast: Forecast,
     requests: &[u8],
     allowance: u64,
     totals: Totals,
 ) -> ToldRun
-    ensures { λ r. ⌜ RunTells profile (now (list .entry)) forecast (now (requests .entry)) allowance totals r (now (list .exit)) ⌝ }
+    ensures { λ r. ⌜ RunTells profile (lend (now (list .entry)) (now (table .entry))) forecast (now (requests .entry)) allowance totals r (lend (now (list .exit)) (now (table .exit))) ⌝ }
 {
-    let done = run::running::run_with(profile, list, forecast, requests, allowance, totals);
+    let done = run::running::run_with(profile, list, table, forecast, requests, allowance, totals);
     let reply = done.reply;
     let left = reply.forecast;
     let tally = reply.tally;
@@ -49,14 +51,15 @@ pub fn run_told(
 pub extern "C" fn ff_run_over(
     profile: u64,
     list: &mut [u64],
+    table: &mut [usize],
     forecast: Forecast,
     requests: &[u8],
     allowance: u64,
     totals: &mut Totals,
 ) -> Told
-    ensures { λ r. ⌜ RunTells profile (now (list .entry)) forecast (now (requests .entry)) allowance (now (totals .entry)) (record { told = r; totals = now (totals .exit) }) (now (list .exit)) ⌝ }
+    ensures { λ r. ⌜ RunTells profile (lend (now (list .entry)) (now (table .entry))) forecast (now (requests .entry)) allowance (now (totals .entry)) (record { told = r; totals = now (totals .exit) }) (lend (now (list .exit)) (now (table .exit))) ⌝ }
 {
-    let done = run_told(profile, list, forecast, requests, allowance, *totals);
+    let done = run_told(profile, list, table, forecast, requests, allowance, *totals);
     *totals = done.totals;
     done.told
 }

@@ -1,10 +1,10 @@
-// Works the commands of its standard input on one array and one forecast, in one profile at a time, through the public calls, and writes what each call answers.
-// A command is 25 bytes: what is asked, and three numbers, high byte first.
-ghost use Prim.Native.Nat.{_≤_, _<_, _+_};
+// Works the commands of its standard input on one array, table and forecast, in one profile at a time, through the public calls, and writes what
+// each answers. A command is 25 bytes: what is asked, and three numbers, high byte first.
+mod showing;
+
+ghost use Prim.Native.Nat.{_≤_, _+_};
 ghost use lib.ListN.{length};
 use forecast::Forecast;
-use given::Told;
-use libc::STDOUT_FILENO;
 
 struct Command {
     ask: u8,
@@ -13,72 +13,12 @@ struct Command {
     z: u64,
 }
 
-// The profile's number, the number of slots in use, and the forecast.
+// The profile's number, the number of slots and of the table's entries lent, and the forecast.
 struct Room {
     profile: u64,
     len: usize,
+    entries: usize,
     forecast: Forecast,
-}
-
-fn text(s: &[u8]) {
-    io::write_all(STDOUT_FILENO, s);
-}
-
-fn number(n: u64) {
-    text(b" ");
-    io::print_decimal(STDOUT_FILENO, n);
-}
-
-// A line of the word for a call and three numbers.
-fn line(word: &[u8], a: u64, b: u64, c: u64) {
-    text(word);
-    number(a);
-    number(b);
-    number(c);
-    text(b"\n");
-}
-
-fn told(name: &[u8], answer: Told) {
-    line(name, answer.number, answer.first, answer.second);
-}
-
-// What the slots hold, as one number.
-fn sum_of(slots: &[u64]) -> u64 {
-    let mut sum: u64 = 0;
-    let mut i = 0;
-    while i < slots.len() {
-        sum = (sum * 31 + slots[i] % 1000003) % 1000003;
-        i += 1;
-    }
-    sum
-}
-
-// The keys of each segment.
-fn show_counts(slots: &[u64]) {
-    text(b"counts");
-    let n = slots.len() / 64;
-    let mut s = 0;
-    while s < n {
-        let a = 64 * s;
-        let e = a + 64;
-        number(places::counting::count_keys(&slots[a..e]) as u64);
-        s += 1;
-    }
-    text(b"\n");
-}
-
-// The cells in use.
-fn show_cells(forecast: Forecast) {
-    text(b"cells");
-    number(forecast.used as u64);
-    let mut i = 0;
-    while i < 12 {
-        number(forecast.markers[i]);
-        number(wide(forecast.segments[i]));
-        number(wide(forecast.counts[i]));
-        i += 1;
-    }
-    text(b"\n");
 }
 
 // A number as a byte: 255 for all that is over it.
@@ -89,13 +29,6 @@ fn narrow(x: u64) -> u8 {
     255
 }
 
-// A byte as a number of 64 bits.
-fn wide(x: u8) -> u64
-    ensures { λ r. ⌜ r < 256 ⌝ }
-{
-    x as u64
-}
-
 // Eight bytes as a number, high byte first.
 fn number_at(input: &[u8], a: usize) -> u64
     requires { ⌜ a + 8 ≤ length (now input) ⌝ }
@@ -103,7 +36,7 @@ fn number_at(input: &[u8], a: usize) -> u64
     let mut n: u64 = 0;
     let mut i = 0;
     while i < 8 {
-        n = n % 72057594037927936 * 256 + wide(input[a + i]);
+        n = n % 72057594037927936 * 256 + showing::wide(input[a + i]);
         i += 1;
     }
     n
@@ -120,95 +53,149 @@ fn command_at(input: &[u8], a: usize) -> Command
     }
 }
 
-// 1: an empty list of x slots.
-fn ask_make(slots: &mut [u64], room: Room, c: Command) -> Room {
-    let len = c.x as usize;
-    if slots.len() < len {
-        return room;
+// The room with another forecast.
+fn with(room: Room, forecast: Forecast) -> Room {
+    Room {
+        profile: room.profile,
+        len: room.len,
+        entries: room.entries,
+        forecast,
     }
-    let reply = list::calls::make(room.profile, &mut slots[..len]);
-    let answer = reply.answer;
-    line(b"make", telling::make_number(answer), 0, 0);
-    let forecast = reply.forecast;
+}
+
+// The room with another number of slots and of entries lent.
+fn lending(room: Room, len: usize, entries: usize) -> Room {
+    let forecast = room.forecast;
     Room {
         profile: room.profile,
         len,
+        entries,
         forecast,
     }
+}
+
+// 1: an empty list of x slots and y entries.
+fn ask_make(slots: &mut [u64], table: &mut [usize], room: Room, c: Command) -> Room {
+    let len = c.x as usize;
+    let entries = c.y as usize;
+    if slots.len() < len {
+        return room;
+    }
+    if table.len() < entries {
+        return room;
+    }
+    let reply = list::calls::make(room.profile, &mut slots[..len], &mut table[..entries]);
+    let answer = reply.answer;
+    showing::line(b"make", telling::make_number(answer), 0, 0);
+    with(lending(room, len, entries), reply.forecast)
 }
 
 // 2: insert of x.
-fn ask_insert(slots: &mut [u64], room: Room, c: Command) -> Room {
+fn ask_insert(slots: &mut [u64], table: &mut [usize], room: Room, c: Command) -> Room {
     let len = room.len;
+    let entries = room.entries;
     if slots.len() < len {
         return room;
     }
-    let reply = list::changing::insert(room.profile, &mut slots[..len], room.forecast, c.x);
-    let answer = reply.answer;
-    told(b"insert", telling::insert_told(answer));
-    let forecast = reply.forecast;
-    Room {
-        profile: room.profile,
-        len,
-        forecast,
+    if table.len() < entries {
+        return room;
     }
+    let reply = list::changing::insert(
+        room.profile,
+        &mut slots[..len],
+        &mut table[..entries],
+        room.forecast,
+        c.x,
+    );
+    let answer = reply.answer;
+    showing::told(b"insert", telling::insert_told(answer));
+    with(room, reply.forecast)
 }
 
 // 3: delete of x.
-fn ask_delete(slots: &mut [u64], room: Room, c: Command) -> Room {
+fn ask_delete(slots: &mut [u64], table: &mut [usize], room: Room, c: Command) -> Room {
     let len = room.len;
+    let entries = room.entries;
     if slots.len() < len {
         return room;
     }
-    let reply = list::changing::delete(room.profile, &mut slots[..len], room.forecast, c.x);
-    let answer = reply.answer;
-    told(b"delete", telling::delete_told(answer));
-    let forecast = reply.forecast;
-    Room {
-        profile: room.profile,
-        len,
-        forecast,
+    if table.len() < entries {
+        return room;
     }
+    let reply = list::changing::delete(
+        room.profile,
+        &mut slots[..len],
+        &mut table[..entries],
+        room.forecast,
+        c.x,
+    );
+    let answer = reply.answer;
+    showing::told(b"delete", telling::delete_told(answer));
+    with(room, reply.forecast)
 }
 
 // 4: lookup of x.
-fn ask_lookup(slots: &[u64], room: Room, c: Command) {
+fn ask_lookup(slots: &[u64], table: &[usize], room: Room, c: Command) {
     let len = room.len;
+    let entries = room.entries;
     if slots.len() < len {
         return;
     }
-    let answer = list::calls::lookup(room.profile, &slots[..len], c.x);
-    told(b"lookup", telling::lookup_told(answer));
+    if table.len() < entries {
+        return;
+    }
+    let answer = list::calls::lookup(room.profile, &slots[..len], &table[..entries], c.x);
+    showing::told(b"lookup", telling::lookup_told(answer));
 }
 
 // 5: scan from x into an output of y numbers, filled with 7 before.
-fn ask_scan(slots: &[u64], room: Room, c: Command) {
+fn ask_scan(slots: &[u64], table: &[usize], room: Room, c: Command) {
     let mut output = [7u64; 64];
-    scan_into(slots, room.profile, room.len, c, &mut output);
+    scan_into(slots, table, room, c, &mut output);
 }
 
 // The scan into the first y numbers of an output, and what the whole output holds then.
-fn scan_into(slots: &[u64], profile: u64, len: usize, c: Command, output: &mut [u64]) {
+fn scan_into(slots: &[u64], table: &[usize], room: Room, c: Command, output: &mut [u64]) {
+    let len = room.len;
+    let entries = room.entries;
     let n = c.y as usize;
     if slots.len() < len {
+        return;
+    }
+    if table.len() < entries {
         return;
     }
     if output.len() < n {
         return;
     }
-    let answer = list::calls::scan(profile, &slots[..len], c.x, &mut output[..n]);
-    told(b"scan", telling::scan_told(answer));
-    line(b"output", sum_of(output), 0, 0);
+    let answer = list::calls::scan(
+        room.profile,
+        &slots[..len],
+        &table[..entries],
+        c.x,
+        &mut output[..n],
+    );
+    showing::told(b"scan", telling::scan_told(answer));
+    showing::line(b"output", showing::sum_of(output), 0, 0);
 }
 
 // 6: check.
-fn ask_check(slots: &[u64], room: Room) {
+fn ask_check(slots: &[u64], table: &[usize], room: Room) {
     let len = room.len;
+    let entries = room.entries;
     if slots.len() < len {
         return;
     }
-    let answer = list::calls::check(room.profile, &slots[..len], room.forecast);
-    line(b"check", telling::check_number(answer), 0, 0);
+    if table.len() < entries {
+        return;
+    }
+    let answer = list::calls::check(
+        room.profile,
+        &slots[..len],
+        &table[..entries],
+        room.forecast,
+    );
+    showing::line(b"check", telling::check_number(answer), 0, 0);
 }
 
 // 7: slot x becomes y.
@@ -228,22 +215,30 @@ fn ask_cell(room: Room, c: Command) -> Room {
         forecast.segments[i] = narrow(c.z / 4294967296);
         forecast.counts[i] = narrow(c.z % 4294967296);
     }
-    Room {
-        profile: room.profile,
-        len: room.len,
-        forecast,
-    }
+    with(room, forecast)
 }
 
 // 9: x cells are used.
 fn ask_used(room: Room, c: Command) -> Room {
     let mut forecast = room.forecast;
     forecast.used = c.x as usize;
-    Room {
-        profile: room.profile,
-        len: room.len,
-        forecast,
+    with(room, forecast)
+}
+
+// 10: what the list holds now.
+fn ask_show(slots: &[u64], table: &[usize], room: Room) {
+    let len = room.len;
+    let entries = room.entries;
+    if slots.len() < len {
+        return;
     }
+    if table.len() < entries {
+        return;
+    }
+    showing::show_counts(&slots[..len]);
+    showing::show_cells(room.forecast);
+    showing::line(b"slots", showing::sum_of(&slots[..len]), 0, 0);
+    showing::show_table(&table[..entries]);
 }
 
 // 11: the profile from now on is the one that x names.
@@ -252,59 +247,69 @@ fn ask_profile(room: Room, c: Command) -> Room {
     Room {
         profile: c.x,
         len: room.len,
+        entries: room.entries,
         forecast,
     }
 }
 
-// 10: what the list holds now.
-fn ask_show(slots: &[u64], room: Room) {
-    let len = room.len;
-    if slots.len() < len {
-        return;
+// 12: entry x becomes y.
+fn ask_entry(table: &mut [usize], c: Command) {
+    let i = c.x as usize;
+    if i < table.len() {
+        table[i] = c.y as usize;
     }
-    show_counts(&slots[..len]);
-    show_cells(room.forecast);
-    line(b"slots", sum_of(&slots[..len]), 0, 0);
 }
 
-fn work(slots: &mut [u64], room: Room, c: Command) -> Room {
+// 13: x entries are lent from now on.
+fn ask_lent(table: &[usize], room: Room, c: Command) -> Room {
+    let entries = c.x as usize;
+    if table.len() < entries {
+        return room;
+    }
+    lending(room, room.len, entries)
+}
+
+fn work(slots: &mut [u64], table: &mut [usize], room: Room, c: Command) -> Room {
     let ask = c.ask;
     match ask {
-        1 => ask_make(slots, room, c),
-        2 => ask_insert(slots, room, c),
-        3 => ask_delete(slots, room, c),
+        1 => ask_make(slots, table, room, c),
+        2 => ask_insert(slots, table, room, c),
+        3 => ask_delete(slots, table, room, c),
         8 => ask_cell(room, c),
         9 => ask_used(room, c),
         11 => ask_profile(room, c),
+        13 => ask_lent(table, room, c),
         _ => {
-            look(slots, room, c);
+            look(slots, table, room, c);
             room
         }
     }
 }
 
-fn look(slots: &mut [u64], room: Room, c: Command) {
+fn look(slots: &mut [u64], table: &mut [usize], room: Room, c: Command) {
     let ask = c.ask;
     match ask {
-        4 => ask_lookup(slots, room, c),
-        5 => ask_scan(slots, room, c),
-        6 => ask_check(slots, room),
+        4 => ask_lookup(slots, table, room, c),
+        5 => ask_scan(slots, table, room, c),
+        6 => ask_check(slots, table, room),
         7 => ask_poke(slots, c),
-        _ => ask_show(slots, room),
+        12 => ask_entry(table, c),
+        _ => ask_show(slots, table, room),
     }
 }
 
-fn play(input: &[u8], slots: &mut [u64]) {
+fn play(input: &[u8], slots: &mut [u64], table: &mut [usize]) {
     let mut room = Room {
         profile: 1,
         len: 0,
+        entries: 0,
         forecast: Forecast::empty(),
     };
     let n = input.len() / 25;
     let mut i = 0;
     while i < n {
         let c = command_at(input, 25 * i);
-        room = work(slots, room, c);
+        room = work(slots, table, room, c);
         i += 1;
     }
 }
@@ -313,5 +318,6 @@ fn main() {
     let mut input = io::large_buffer();
     let n = io::read_full(0, &mut input);
     let mut slots = [0u64; 8192];
-    play(&input[..n], &mut slots);
+    let mut table = [0usize; 256];
+    play(&input[..n], &mut slots, &mut table);
 }

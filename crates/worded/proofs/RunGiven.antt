@@ -10,6 +10,7 @@ use Rattle.lists.proofs.Tests.{tested, neqb→ne, nor}
 use Rattle.forecast.specs.declared.Forecast.{Forecast}
 use Rattle.rules.specs.declared.Tally.{Tally}
 use Rattle.rules.specs.declared.Totals.{Totals}
+use Rattle.rules.specs.Lent.{Lent, lend}
 use Rattle.rules.specs.Calls as rules
 use Rattle.rules.specs.Checks as checks
 use Rattle.rules.specs.Rows.{Tells, bothRows, stopRows}
@@ -29,9 +30,10 @@ use Rattle.replies.specs.Back.{worksOn, handedBack}
 use Rattle.replies.proofs.Back.{plain, works-not, handed, kept}
 
 -- what a run on words is lent, of the right sizes
-pub record Lent : Type 0 where
+pub record OnWords : Type 0 where
   pub profile : ℕ
   pub list : List ℕ
+  pub table : List ℕ
   pub forecast : List ℕ
   pub requests : List ℕ
   pub allowance : ℕ
@@ -41,12 +43,12 @@ pub record Lent : Type 0 where
   pub totals-fit : length totals ≡ 4
   pub reply-fits : 4 ≤ length reply
 
-module _ (x : Lent) where
+module _ (x : OnWords) where
   abbrev profile : ℕ
   profile = x .profile
 
-  abbrev list : List ℕ
-  list = x .list
+  abbrev L : Lent
+  L = lend (x .list) (x .table)
 
   abbrev forecast : List ℕ
   forecast = x .forecast
@@ -61,11 +63,11 @@ module _ (x : Lent) where
   totals = x .totals
 
   abbrev W : rules.Worked
-  W = rules.run profile list (forecastIn forecast) requests allowance (totalsIn totals)
+  W = rules.run profile L (forecastIn forecast) requests allowance (totalsIn totals)
 
   -- a checked run stops by 0, 9 or 10
-  late : checks.check profile list (forecastIn forecast) ≡ 0 → worksOn (W .reply .stop) ≡ true
-  late z = stops (singly.run-tells profile list (forecastIn forecast) requests allowance (totalsIn totals) z .0)
+  late : checks.check profile L (forecastIn forecast) ≡ 0 → worksOn (W .reply .stop) ≡ true
+  late z = stops (singly.run-tells profile L (forecastIn forecast) requests allowance (totalsIn totals) z .0)
     where
       stops : Tells (stopRows profile requests allowance W) (W .reply .stop) → worksOn (W .reply .stop) ≡ true
       stops (inl (u, e)) = ap worksOn e
@@ -73,35 +75,35 @@ module _ (x : Lent) where
       stops (inr (u, inr (v, e))) = ap worksOn e
 
   -- one that is refused at once, by a number of the check
-  early : checks.check profile list (forecastIn forecast) ≢ 0 → worksOn (checks.check profile list (forecastIn forecast)) ≡ false
+  early : checks.check profile L (forecastIn forecast) ≢ 0 → worksOn (checks.check profile L (forecastIn forecast)) ≡ false
   early z =
-      works-not (checks.check profile list (forecastIn forecast))
-      (told-each plain (bothRows profile list (forecastIn forecast)) _ tt (below.check-tells profile list (forecastIn forecast) (forecastIn-roomy forecast))) z
+      works-not (checks.check profile L (forecastIn forecast))
+      (told-each plain (bothRows profile L (forecastIn forecast)) _ tt (below.check-tells profile L (forecastIn forecast) (forecastIn-roomy forecast))) z
 
   -- the words written are the same where the run is worked, and where it is refused at once those lent are left
   back : (n : ℕ) (G : Forecast) → n ≡ W .reply .stop
-      → G ≡ rules.run profile list (saturated (forecastIn forecast)) requests allowance (totalsIn totals) .forecast → handedBack n G forecast ≡ forecastWords (W .forecast)
+      → G ≡ rules.run profile L (saturated (forecastIn forecast)) requests allowance (totalsIn totals) .forecast → handedBack n G forecast ≡ forecastWords (W .forecast)
   back n G e g =
-      let same = run-same profile list (forecastIn forecast) requests allowance (totalsIn totals) (forecastIn-roomy forecast) in
-      elim (tested (eqb (checks.check profile list (forecastIn forecast)) 0)) [
+      let same = run-same profile L (forecastIn forecast) requests allowance (totalsIn totals) (forecastIn-roomy forecast) in
+      elim (tested (eqb (checks.check profile L (forecastIn forecast)) 0)) [
         | inl t ↦
-            (let z : checks.check profile list (forecastIn forecast) ≡ 0 = eqb→eq _ _ t in
+            (let z : checks.check profile L (forecastIn forecast) ≡ 0 = eqb→eq _ _ t in
             handed n G forecast (ap worksOn e ∙ late z) ∙ ap forecastWords (g ∙ same .done z))
         | inr t ↦
-            (let z : checks.check profile list (forecastIn forecast) ≢ 0 = neqb→ne _ _ t in
+            (let z : checks.check profile L (forecastIn forecast) ≢ 0 = neqb→ne _ _ t in
             let q = same .left z in
             kept n G forecast (ap worksOn (e ∙ q .1) ∙ early z) ∙ sym (ap forecastWords (q .0) ∙ words-again forecast (x .forecast-fits)))
       ]
 
-  pub run-given : (F : Forecast) (T : Totals) (k : ToldRun) (list' forecast' totals' reply' : List ℕ) → F ≡ saturated (forecastIn (x .forecast)) → T ≡ totalsIn (x .totals)
-      → RunTells (x .profile) (x .list) F (x .requests) (x .allowance) T k list'
+  pub run-given : (F : Forecast) (T : Totals) (k : ToldRun) (list' table' forecast' totals' reply' : List ℕ) → F ≡ saturated (forecastIn (x .forecast)) → T ≡ totalsIn (x .totals)
+      → RunTells (x .profile) (lend (x .list) (x .table)) F (x .requests) (x .allowance) T k (lend list' table')
       → RunPosted (k .told .stop) (k .told .forecast) (k .told .tally) (k .totals) (x .forecast) (x .reply) forecast' totals' reply'
-      → Gives (run (x .profile) (x .list) (x .forecast) (x .requests) (x .allowance) (x .totals) (x .reply)) (k .told .stop) (list' ∷ forecast' ∷ totals' ∷ reply' ∷ [])
+      → Gives (run (x .profile) (x .list) (x .table) (x .forecast) (x .requests) (x .allowance) (x .totals) (x .reply)) (k .told .stop) (list' ∷ table' ∷ forecast' ∷ totals' ∷ reply' ∷ [])
   unfolding run
-  run-given F T k list' forecast' totals' reply' f g a p =
-      let is : rules.run profile list F requests allowance T ≡ rules.run profile list (saturated (forecastIn forecast)) requests allowance (totalsIn totals) = λ i. rules.run profile list (f i) requests allowance (g i) in
-      let same = run-same profile list (forecastIn forecast) requests allowance (totalsIn totals) (forecastIn-roomy forecast) in
-      let slots = a .slots-left ∙ ap (λ (w : rules.Worked). w .slots) is ∙ same .slots-left in
+  run-given F T k list' table' forecast' totals' reply' f g a p =
+      let is : rules.run profile L F requests allowance T ≡ rules.run profile L (saturated (forecastIn forecast)) requests allowance (totalsIn totals) = λ i. rules.run profile L (f i) requests allowance (g i) in
+      let same = run-same profile L (forecastIn forecast) requests allowance (totalsIn totals) (forecastIn-roomy forecast) in
+      let lent = a .lent-left ∙ ap (λ (w : rules.Worked). w .lent) is ∙ same .lent in
       let stop = a .stop ∙ ap (λ (w : rules.Worked). w .reply .stop) is ∙ ap (λ (r : rules.Reply). r .stop) (same .reply) in
       let words = p .forecast-left ∙ back (k .told .stop) (k .told .forecast) stop (a .forecast ∙ ap (λ (w : rules.Worked). w .forecast) is) in
       let sums = p .totals-left ∙ ap totalsWords (a .totals ∙ ap (λ (w : rules.Worked). w .totals) is ∙ same .totals) in
@@ -110,4 +112,4 @@ module _ (x : Lent) where
       fitted (notForecast (x .forecast) || (notTotals (x .totals) || short (x .reply) 4)) _ _
       (nor (notForecast (x .forecast)) (notTotals (x .totals) || short (x .reply) 4) (forecast-sized (x .forecast) (x .forecast-fits))
       (nor (notTotals (x .totals)) (short (x .reply) 4) (totals-sized (x .totals) (x .totals-fit)) (reply-sized (x .reply) 4 (x .reply-fits))))
-      (record { number = stop; slices = λ i. slots i ∷ words i ∷ sums i ∷ said i ∷ [] })
+      (record { number = stop; slices = λ i. lent i .slots ∷ lent i .table ∷ words i ∷ sums i ∷ said i ∷ [] })

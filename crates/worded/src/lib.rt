@@ -10,15 +10,16 @@ ghost use Rattle.given.specs.Calls as calls;
 pub fn insert(
     profile: u64,
     list: &mut [u64],
+    table: &mut [usize],
     forecast: &mut [u64],
     key: u64,
     reply: &mut [u64],
 ) -> u64
     requires { ⌜ (length (now forecast) ≡ 37) × (1 ≤ length (now reply)) ⌝ }
-    ensures { λ r. ⌜ Gives (calls.insert profile (now (list .entry)) (now (forecast .entry)) key (now (reply .entry))) r (now (list .exit) ∷ now (forecast .exit) ∷ now (reply .exit) ∷ []) ⌝ }
+    ensures { λ r. ⌜ Gives (calls.insert profile (now (list .entry)) (now (table .entry)) (now (forecast .entry)) key (now (reply .entry))) r (now (list .exit) ∷ now (table .exit) ∷ now (forecast .exit) ∷ now (reply .exit) ∷ []) ⌝ }
 {
     let given = words::read_forecast(forecast);
-    let done = list::changing::insert(profile, list, given, key);
+    let done = list::changing::insert(profile, list, table, given, key);
     posts::post_insert(done, forecast, reply)
 }
 
@@ -26,15 +27,16 @@ pub fn insert(
 pub fn delete(
     profile: u64,
     list: &mut [u64],
+    table: &mut [usize],
     forecast: &mut [u64],
     key: u64,
     reply: &mut [u64],
 ) -> u64
     requires { ⌜ (length (now forecast) ≡ 37) × (2 ≤ length (now reply)) ⌝ }
-    ensures { λ r. ⌜ Gives (calls.delete profile (now (list .entry)) (now (forecast .entry)) key (now (reply .entry))) r (now (list .exit) ∷ now (forecast .exit) ∷ now (reply .exit) ∷ []) ⌝ }
+    ensures { λ r. ⌜ Gives (calls.delete profile (now (list .entry)) (now (table .entry)) (now (forecast .entry)) key (now (reply .entry))) r (now (list .exit) ∷ now (table .exit) ∷ now (forecast .exit) ∷ now (reply .exit) ∷ []) ⌝ }
 {
     let given = words::read_forecast(forecast);
-    let done = list::changing::delete(profile, list, given, key);
+    let done = list::changing::delete(profile, list, table, given, key);
     posts::post_delete(done, forecast, reply)
 }
 
@@ -42,6 +44,7 @@ pub fn delete(
 pub fn run(
     profile: u64,
     list: &mut [u64],
+    table: &mut [usize],
     forecast: &mut [u64],
     requests: &[u8],
     allowance: u64,
@@ -49,11 +52,11 @@ pub fn run(
     reply: &mut [u64],
 ) -> u64
     requires { ⌜ (length (now forecast) ≡ 37) × (length (now totals) ≡ 4) × (4 ≤ length (now reply)) ⌝ }
-    ensures { λ r. ⌜ Gives (calls.run profile (now (list .entry)) (now (forecast .entry)) (now (requests .entry)) allowance (now (totals .entry)) (now (reply .entry))) r (now (list .exit) ∷ now (forecast .exit) ∷ now (totals .exit) ∷ now (reply .exit) ∷ []) ⌝ }
+    ensures { λ r. ⌜ Gives (calls.run profile (now (list .entry)) (now (table .entry)) (now (forecast .entry)) (now (requests .entry)) allowance (now (totals .entry)) (now (reply .entry))) r (now (list .exit) ∷ now (table .exit) ∷ now (forecast .exit) ∷ now (totals .exit) ∷ now (reply .exit) ∷ []) ⌝ }
 {
     let given = words::read_forecast(forecast);
     let before = words::totals::read_totals(totals);
-    let ran = told::run_told(profile, list, given, requests, allowance, before);
+    let ran = told::run_told(profile, list, table, given, requests, allowance, before);
     let done = ran.told;
     let stop = done.stop;
     let left = done.forecast;

@@ -1,5 +1,5 @@
--- The calls on what bytes hold of a forecast: the same numbers, answers and slots; the same forecast where the call is done; and where it is
--- refused, the forecast lent is left, so that its words need not be written.
+-- The calls on what bytes hold of a forecast: the same numbers, answers, slots and table; the same forecast where the call is done; and where
+-- it is refused, the forecast lent is left, so that its words need not be written.
 use Prim.Native.Nat.{ℕ, _^_, _≤_}
 use mathlib.Core.Path.{_≡_, refl, sym, ap, _∙_}
 use mathlib.Core.Bool.{Bool, true, false, not}
@@ -21,9 +21,11 @@ use Rattle.rules.specs.declared.Request.{Request}
 use Rattle.rules.specs.declared.Totals.{Totals}
 use Rattle.rules.specs.Shares.{cellsOf}
 use Rattle.rules.specs.Placing.{refused}
-use Rattle.rules.specs.Checks.{sharesOf, checkList, check}
+use Rattle.rules.specs.Lent.{Lent}
+use Rattle.rules.specs.Checks.{sharesOf, checkList, checkBoth, thenTable, check}
 use Rattle.rules.specs.Calls.{Called, request, Worked, stoppedAtOnce, run}
 use Rattle.rules.proofs.Requests.Checked.{passed, both-pass}
+use Rattle.rules.proofs.Requests.Tabled.{room-passes}
 use Rattle.rules.proofs.Requests.SingleCalls.{request-unchecked}
 use Rattle.rules.proofs.Refusals.Refused.{request-refused}
 use Rattle.rules.proofs.Running.Runs.{run-refused}
@@ -45,83 +47,92 @@ module _ (profile : ℕ) (slots : List ℕ) (F : Forecast) where
   few-segments e =
       omega (arith, length-segments slots (2 ^ heightOf (length slots)) (passed profile slots e .number), pow-le-pow-right {n = 2} (omega arith) {i = heightOf (length slots)} {j = 6} (passed profile slots e .to))
 
-  -- CHECK gives the same number
-  pub check-same : check profile slots (saturated F) ≡ check profile slots F
-  unfolding check
-  check-same = go (eqb (checkList profile slots) 0) (eqb→eq (checkList profile slots) 0)
+  -- list and forecast get the same number
+  both-same : checkBoth profile slots (saturated F) ≡ checkBoth profile slots F
+  unfolding checkBoth
+  both-same = go (eqb (checkList profile slots) 0) (eqb→eq (checkList profile slots) 0)
     where
       go : (b : Bool) → (T b → checkList profile slots ≡ 0)
           → _≡_ {A = ℕ} (if not b then checkList profile slots else if not (isSound (faultOf P ss (saturated F))) then 4 else 0) (if not b then checkList profile slots else if not (isSound (faultOf P ss F)) then 4 else 0)
       go true p = ap {B = ℕ} (λ (f : Fault). if not (isSound f) then 4 else 0) (fault-same P (omega (arith, few-cells (p tt))) ss (omega (arith, few-segments (p tt))) F)
       go false p = refl
 
-  -- a forecast that passes is held whole
-  pub checked-same : check profile slots F ≡ 0 → Roomy F → saturated F ≡ F
-  checked-same e r =
+  -- and one that passes is held whole
+  held-whole : checkBoth profile slots F ≡ 0 → Roomy F → saturated F ≡ F
+  held-whole e r =
       let l = both-pass profile slots F e .0 in
       sound-same P (omega (arith, few-cells l)) ss (omega (arith, few-segments l)) F (few-cells l) r (both-pass profile slots F e .1)
+
+-- CHECK gives the same number, the table being the same; a forecast that passes is held whole
+module _ (profile : ℕ) (L : Lent) (F : Forecast) where
+  pub check-same : check profile L (saturated F) ≡ check profile L F
+  unfolding check
+  check-same = ap (λ (n : ℕ). thenTable n L) (both-same profile (L .slots) F)
+
+  pub checked-same : check profile L F ≡ 0 → Roomy F → saturated F ≡ F
+  checked-same e r = held-whole profile (L .slots) F (room-passes profile L F e) r
 
 -- A REQUEST: how a request on the saturated forecast c′ stands to that on the forecast lent
 pub record SameCall (F : Forecast) (c′ c : Called) : Type 0 where
   pub answer : c′ .answer ≡ c .answer
-  pub slots : c′ .slots ≡ c .slots
+  pub lent : c′ .lent ≡ c .lent
   pub done : c .answer .number ≡ 0 → c′ .forecast ≡ c .forecast
   pub left : c .answer .number ≢ 0 → c .forecast ≡ F
 
-pub request-same : (profile : ℕ) (q : Request) (slots : List ℕ) (F : Forecast) → Roomy F → SameCall F (request profile q slots (saturated F)) (request profile q slots F)
-request-same profile q slots F r =
-    elim (tested (eqb (check profile slots F) 0)) [
+pub request-same : (profile : ℕ) (q : Request) (L : Lent) (F : Forecast) → Roomy F → SameCall F (request profile q L (saturated F)) (request profile q L F)
+request-same profile q L F r =
+    elim (tested (eqb (check profile L F) 0)) [
       | inl t ↦
-          (let e : request profile q slots (saturated F) ≡ request profile q slots F = ap (request profile q slots) (checked-same profile slots F (eqb→eq _ _ t) r) in
+          (let e : request profile q L (saturated F) ≡ request profile q L F = ap (request profile q L) (checked-same profile L F (eqb→eq _ _ t) r) in
           record {
             answer = ap (λ (c : Called). c .answer) e;
-            slots = ap (λ (c : Called). c .slots) e;
+            lent = ap (λ (c : Called). c .lent) e;
             done = λ z. ap (λ (c : Called). c .forecast) e;
-            left = λ z. ap (λ (c : Called). c .forecast) (request-refused profile q slots F z);
+            left = λ z. ap (λ (c : Called). c .forecast) (request-refused profile q L F z);
           })
       | inr t ↦
-          (let n : check profile slots F ≢ 0 = neqb→ne _ _ t in
-          let e = request-unchecked profile q slots F n in
-          let e′ = request-unchecked profile q slots (saturated F) (λ z. n (sym (check-same profile slots F) ∙ z)) in
+          (let n : check profile L F ≢ 0 = neqb→ne _ _ t in
+          let e = request-unchecked profile q L F n in
+          let e′ = request-unchecked profile q L (saturated F) (λ z. n (sym (check-same profile L F) ∙ z)) in
           record {
-            answer = ap (λ (c : Called). c .answer) e′ ∙ ap refused (check-same profile slots F) ∙ sym (ap (λ (c : Called). c .answer) e);
-            slots = ap (λ (c : Called). c .slots) e′ ∙ sym (ap (λ (c : Called). c .slots) e);
+            answer = ap (λ (c : Called). c .answer) e′ ∙ ap refused (check-same profile L F) ∙ sym (ap (λ (c : Called). c .answer) e);
+            lent = ap (λ (c : Called). c .lent) e′ ∙ sym (ap (λ (c : Called). c .lent) e);
             done = λ z. absurd (n (sym (ap (λ (c : Called). c .answer .number) e) ∙ z));
-            left = λ z. ap (λ (c : Called). c .forecast) (request-refused profile q slots F z);
+            left = λ z. ap (λ (c : Called). c .forecast) (request-refused profile q L F z);
           })
     ]
 
 -- A RUN
-pub record SameRun (profile : ℕ) (slots : List ℕ) (F : Forecast) (w′ w : Worked) : Type 0 where
-  pub slots-left : w′ .slots ≡ w .slots
+pub record SameRun (profile : ℕ) (L : Lent) (F : Forecast) (w′ w : Worked) : Type 0 where
+  pub lent : w′ .lent ≡ w .lent
   pub totals : w′ .totals ≡ w .totals
   pub reply : w′ .reply ≡ w .reply
-  pub done : check profile slots F ≡ 0 → w′ .forecast ≡ w .forecast
-  pub left : check profile slots F ≢ 0 → (w .forecast ≡ F) × (w .reply .stop ≡ check profile slots F)
+  pub done : check profile L F ≡ 0 → w′ .forecast ≡ w .forecast
+  pub left : check profile L F ≢ 0 → (w .forecast ≡ F) × (w .reply .stop ≡ check profile L F)
 
-pub run-same : (profile : ℕ) (slots : List ℕ) (F : Forecast) (bytes : List ℕ) (allowance : ℕ) (S : Totals) → Roomy F
-    → SameRun profile slots F (run profile slots (saturated F) bytes allowance S) (run profile slots F bytes allowance S)
-run-same profile slots F bytes allowance S r =
-    elim (tested (eqb (check profile slots F) 0)) [
+pub run-same : (profile : ℕ) (L : Lent) (F : Forecast) (bytes : List ℕ) (allowance : ℕ) (S : Totals) → Roomy F
+    → SameRun profile L F (run profile L (saturated F) bytes allowance S) (run profile L F bytes allowance S)
+run-same profile L F bytes allowance S r =
+    elim (tested (eqb (check profile L F) 0)) [
       | inl t ↦
-          (let z : check profile slots F ≡ 0 = eqb→eq _ _ t in
-          let e : run profile slots (saturated F) bytes allowance S ≡ run profile slots F bytes allowance S = ap (λ (G : Forecast). run profile slots G bytes allowance S) (checked-same profile slots F z r) in
+          (let z : check profile L F ≡ 0 = eqb→eq _ _ t in
+          let e : run profile L (saturated F) bytes allowance S ≡ run profile L F bytes allowance S = ap (λ (G : Forecast). run profile L G bytes allowance S) (checked-same profile L F z r) in
           record {
-            slots-left = ap (λ (w : Worked). w .slots) e;
+            lent = ap (λ (w : Worked). w .lent) e;
             totals = ap (λ (w : Worked). w .totals) e;
             reply = ap (λ (w : Worked). w .reply) e;
             done = λ z. ap (λ (w : Worked). w .forecast) e;
             left = λ n. absurd (n z);
           })
       | inr t ↦
-          (let n : check profile slots F ≢ 0 = neqb→ne _ _ t in
-          let e : run profile slots F bytes allowance S ≡ stoppedAtOnce slots F S (check profile slots F) = run-refused profile slots F bytes allowance S n in
-          let e′ : run profile slots (saturated F) bytes allowance S ≡ stoppedAtOnce slots (saturated F) S (check profile slots (saturated F)) =
-          run-refused profile slots (saturated F) bytes allowance S (λ z. n (sym (check-same profile slots F) ∙ z)) in
+          (let n : check profile L F ≢ 0 = neqb→ne _ _ t in
+          let e : run profile L F bytes allowance S ≡ stoppedAtOnce L F S (check profile L F) = run-refused profile L F bytes allowance S n in
+          let e′ : run profile L (saturated F) bytes allowance S ≡ stoppedAtOnce L (saturated F) S (check profile L (saturated F)) =
+          run-refused profile L (saturated F) bytes allowance S (λ z. n (sym (check-same profile L F) ∙ z)) in
           record {
-            slots-left = ap (λ (w : Worked). w .slots) e′ ∙ sym (ap (λ (w : Worked). w .slots) e);
+            lent = ap (λ (w : Worked). w .lent) e′ ∙ sym (ap (λ (w : Worked). w .lent) e);
             totals = ap (λ (w : Worked). w .totals) e′ ∙ sym (ap (λ (w : Worked). w .totals) e);
-            reply = ap (λ (w : Worked). w .reply) e′ ∙ ap (λ (k : ℕ). stoppedAtOnce slots F S k .reply) (check-same profile slots F) ∙ sym (ap (λ (w : Worked). w .reply) e);
+            reply = ap (λ (w : Worked). w .reply) e′ ∙ ap (λ (k : ℕ). stoppedAtOnce L F S k .reply) (check-same profile L F) ∙ sym (ap (λ (w : Worked). w .reply) e);
             done = λ z. absurd (n z);
             left = λ m. (ap (λ (w : Worked). w .forecast) e, ap (λ (w : Worked). w .reply .stop) e);
           })

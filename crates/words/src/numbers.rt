@@ -13,6 +13,7 @@ pub fn refusal_number(refusal: Refusal) -> u64
         Refusal::WrongOrder => 2,
         Refusal::TooManyKeys => 3,
         Refusal::WrongForecast => 4,
+        Refusal::WrongTable => 14,
         Refusal::KeyZero => 5,
         Refusal::KeyPresent => 6,
         Refusal::KeyAbsent => 7,

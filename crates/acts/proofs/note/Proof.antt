@@ -15,13 +15,13 @@ note-insert-requires c κs =
     (asks .0, (asks .1, (asks .2, asks .3)))
 
 returns : tie.Need-returns
-returns c slots bounds counts A = noted-in A (c .before .if1 .taken) (c .note-insert .ensures)
+returns c slots bounds table A = noted-in A (c .before .if1 .taken) (c .note-insert .ensures)
 
 drop-marker-requires : tie.Need-drop-marker-requires
 drop-marker-requires c κs = let s = c .before in note-asks (s .pre .3) (roomy s) .0
 
 returns-2 : tie.Need-returns-2
-returns-2 c slots bounds counts A = noted-out A (c .before .if1 .left) (c .drop-marker .ensures)
+returns-2 c slots bounds table A = noted-out A (c .before .if1 .left) (c .drop-marker .ensures)
 
 pub note-spec : {M : Type 1} → statement M
 note-spec = tie.close (tie.spec note-insert-requires returns drop-marker-requires returns-2)

@@ -24,7 +24,7 @@ retarget-requires c κs =
     (s .pre .0 .6 .tidy, (s .pre .1, window-fits (s .pre .0 .5) (c .power .result) (c .power .ensures .0)))
 
 returns : tie.Need-returns
-returns c slots F was counts shape A N h left full L =
+returns c slots F was table shape A N h left full L =
     forecast-swept A N h L (c .before .power .result) (c .before .power .ensures .0) (c .retarget .ensures .1)
 
 pub retarget-spec : {M : Type 1} → statement M

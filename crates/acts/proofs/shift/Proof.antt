@@ -1,7 +1,9 @@
 -- `shift` puts a key in or takes it out where its place is.
 use native.Mathlib.Omega.{arith}
 use borrow.Author.Needs.{needs}
-use Rattle.acts.proofs.Acted.{segment-in, numbers}
+use Rattle.seats.proofs.Indexes.{few-segments, table-length}
+use Rattle.shifts.proofs.Shifted.{index-summed}
+use Rattle.acts.proofs.Acted.{segment-in, numbers, counted}
 use Rattle.acts.proofs.ActedShift.{room-in, under-out, shifted-in, shifted-out}
 use Rattle.acts.proofs.shift.Statement.{statement}
 use Rattle.acts.proofs.shift.Tie as tie
@@ -10,7 +12,7 @@ put-in-requires : tie.Need-put-in-requires
 put-in-requires c κs =
     let s = c .before .before .before .before .before .before .before in
     let A = s .pre .0 .2 in
-    (numbers A .0, numbers A .1, numbers A .2, room-in A (c .before .before .if1 .taken) (s .pre .1))
+    (numbers A .0, numbers A .1, room-in A (c .before .before .if1 .taken) (s .pre .1), omega (arith, segment-in A, table-length (A .index)), index-summed (A .index))
 
 same-length : tie.Need-same-length
 same-length c = search needs
@@ -25,7 +27,7 @@ cut-out-requires : tie.Need-cut-out-requires
 cut-out-requires c κs =
     let s = c .before .before .before .before .before .before .before .before in
     let A = s .pre .0 .2 in
-    ((omega (arith, segment-in A, A .index .few), numbers A .1, under-out A (c .before .before .before .if1 .left), numbers A .3), (A .index .bound .long, numbers A .0))
+    ((omega (arith, segment-in A, few-segments (A .index)), numbers A .0, under-out A (c .before .before .before .if1 .left), numbers A .2), (A .index .bound .long, omega (arith, segment-in A, table-length (A .index)), index-summed (A .index), counted A))
 
 same-length-3 : tie.Need-same-length-3
 same-length-3 c = search needs

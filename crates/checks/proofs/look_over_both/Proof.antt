@@ -9,7 +9,7 @@ use lib.ListN.{length}
 use Rattle.slots.specs.Segments.{segmentsOf}
 use Rattle.forecast.specs.declared.Forecast.{Forecast}
 use Rattle.forecast.specs.Faults.{faultOf, isSound}
-use Rattle.rules.specs.Shares.{shares, cellsOf}
+use Rattle.rules.specs.Shares.{cellsOf}
 use Rattle.rules.specs.Checks.{sharesOf, checkList}
 use Rattle.rules.specs.Refusals.{verdictNumber}
 use Rattle.rules.specs.declared.Verdict.the-variants.{Accepted}

@@ -1,33 +1,28 @@
 -- `scan_from` writes the keys above a key, from where a search for it ends.
-use mathlib.Core.Path.{_≡_, refl, sym, ap, _∙_}
-use mathlib.Core.Logic.{inl, inr}
+use mathlib.Core.Path.{_≡_, refl, sym}
 use mathlib.Core.List.{List}
-use Prim.Native.Nat.{ℕ, _+_, _*_, _≤_, _<_}
+use Prim.Native.Nat.{ℕ}
 use native.Mathlib.Omega.{arith}
 use borrow.Author.Needs.{needs}
-use lib.ListN.{length, getD}
-use Rattle.slots.specs.declared.Place.{Place}
-use Rattle.slots.specs.Segments.{Segments, keys, segmentsOf}
-use Rattle.slots.specs.Keys.{above}
-use Rattle.slots.specs.Shown.{Shows, Located, CountsOf}
-use Rattle.slots.proofs.Tallies.{shown-within}
-use Rattle.rules.specs.Checks.{checkList}
-use Rattle.rules.proofs.Requests.Shown.{shows-passed, long-passed}
+use Rattle.slots.specs.Segments.{Segments, segmentsOf}
+use Rattle.slots.specs.Shown.{Shows, CountsOf}
+use Rattle.seats.specs.Bounds.{boundsOf, Indexed}
+use Rattle.seats.proofs.Indexes.{slots-long, table-holds, counts-held, count-small}
+use Rattle.rules.specs.Lent.{Lent, lend}
+use Rattle.rules.specs.Checks.{checkRead}
 use Rattle.scans.specs.declared.Written.{Written}
 use Rattle.scans.specs.Scans.{Wrote, keysFrom}
 use Rattle.answers.specs.declared.ScanAnswer.{ScanAnswer}
 use Rattle.answers.specs.Admits.{ScanAdmits}
-use Rattle.looks.proofs.KeysAbove.{held-there, above-absent, above-present, at-present, few-counted, Tells, wrote-admits}
+use Rattle.looks.specs.Past.{Past}
+use Rattle.looks.proofs.KeysAbove.{Tells, wrote-admits}
+use Rattle.looks.proofs.Passed.{indexed, can-seek, sought}
 use Rattle.looks.proofs.scan_from.Statement.{statement}
 use Rattle.looks.proofs.scan_from.Tie as tie
 
--- a list that passes shows its segments, whatever the profile
 module _ (s : tie.Start) where
-  abbrev list : List ℕ
-  list = s .args .list .now
-
-  abbrev counts : List ℕ
-  counts = s .args .counts .now
+  abbrev L : Lent
+  L = lend (s .args .list .now) (s .args .table .now)
 
   abbrev from : ℕ
   from = s .args .from
@@ -38,65 +33,39 @@ module _ (s : tie.Start) where
   abbrev ss : Segments
   ss = segmentsOf (s .args .list .now)
 
-  shows : Shows ss list
-  shows = shows-passed (s .pre .0 .0) list (s .pre .0 .1)
+  ix : Indexed (segmentsOf (s .args .list .now)) (s .args .list .now) (boundsOf (segmentsOf (s .args .list .now))) (s .args .table .now)
+  ix = indexed (s .pre .0) L (s .pre .1)
 
-  some : 0 < length ss
-  some =
-      let h : 64 * 0 + 64 ≤ length list = omega (arith, long-passed (s .pre .0 .0) list (s .pre .0 .1)) in
-      shown-within ss list shows 0 h
+seek-requires : tie.Need-seek-requires
+seek-requires c κs = let s = c .before .before .before in can-seek (s .pre .0) (L s) (s .pre .1)
 
-locate-requires : tie.Need-locate-requires
-locate-requires c κs =
-    let s = c .before .before .before in
-    omega (arith, long-passed (s .pre .0 .0) (list s) (s .pre .0 .1))
-
-add-at : tie.Need-add-at
-add-at c = search needs
+past-requires : tie.Need-past-requires
+past-requires c κs = search needs
 
 -- where the search ends, and where the keys above begin
-module _ (j : tie.Joined1) where
+module _ (c : tie.After-past) where
   abbrev z : tie.Start
-  z = j .before .before .before .before .before
+  z = c .before .before .before .before .before
 
-  abbrev found : Place
-  found = j .before .locate .result
+  abbrev first : ℕ
+  first = c .before .seek .result
 
-  located : Located (from z) (ss z) found
-  located = j .before .locate .ensures .1 (ss z) (shows z)
-
-  begins : (above (from z) (keys (ss z)) ≡ keysFrom (found .segment) (j .if1 .at) (ss z)) × (j .if1 .at ≤ found .held)
-  begins =
-      elim (j .if1 .came) [
-        | inl t ↦ (
-          above-present (from z) (ss z) (shows z .listed) (some z) found located (t .0 .taken) ∙ ap (λ (n : ℕ). keysFrom (found .segment) n (ss z)) (sym (t .1)),
-          omega (arith, t .1, at-present (from z) (ss z) (shows z .listed) (some z) found located (t .0 .taken)),
-        )
-        | inr t ↦ (
-          above-absent (from z) (ss z) (shows z .listed) (some z) found located (t .0 .left) ∙ ap (λ (n : ℕ). keysFrom (found .segment) n (ss z)) (sym (t .1)),
-          omega (arith, t .1, j .before .locate .ensures .0 .1),
-        )
-      ]
-
-  -- by the counts
-  held : getD (counts z) (found .segment) 0 ≡ found .held
-  held =
-      z .pre .2 (found .segment) (shown-within (ss z) (list z) (shows z) (found .segment) (j .before .locate .ensures .0 .0))
-      ∙ sym (held-there (from z) (ss z) (shows z .listed) (some z) found located)
+  begins : Past (from z) (ss z) first (c .past .result)
+  begins = c .past .ensures (ss z) (boundsOf (ss z)) (L z .table) (ix z) (sought (z .pre .0) (L z) (z .pre .1) (from z) first (c .before .seek .ensures .1))
 
   -- what is written is what a scan gives, if it is told so
-  admits : (d : Written) (r : ScanAnswer) (left : List ℕ) → ((gs : Segments) → Shows gs (list z) → CountsOf gs (counts z) → Wrote (keysFrom (found .segment) (j .if1 .at) gs) (output z) d left)
-      → Tells d r → (profile : ℕ) → checkList profile (list z) ≡ 0 → ScanAdmits profile (list z) (from z) (output z) r left
-  admits d r left w t profile e = wrote-admits profile (list z) (from z) (output z) _ d r left e (begins .0) (w (ss z) (shows z) (z .pre .2)) t
+  admits : (d : Written) (r : ScanAnswer) (left : List ℕ) → ((gs : Segments) → Shows gs (L z .slots) → CountsOf gs (L z .table) → Wrote (keysFrom first (c .past .result) gs) (output z) d left)
+      → Tells d r → (profile : ℕ) → checkRead profile (L z) ≡ 0 → ScanAdmits profile (L z) (from z) (output z) r left
+  admits d r left w t profile e = wrote-admits profile (L z) (from z) (output z) _ d r left e (begins .rest) (w (ss z) (ix z .shows) (counts-held (ix z))) t
 
 write-keys-requires : tie.Need-write-keys-requires
 write-keys-requires c κs =
-    let j = c .before in
-    let s = z j in (
-      j .before .locate .ensures .0 .0,
-      s .pre .1,
-      omega (arith, held j, begins j .1),
-      few-counted (s .pre .0 .0) (list s) (counts s) (s .pre .0 .1) (s .pre .2),
+    let p = c .before in
+    let i = ix (z p) in (
+      omega arith,
+      omega (arith, table-holds i, slots-long i),
+      omega (arith, begins p .few, counts-held i (first p) (omega (arith, slots-long i))),
+      λ k h. count-small i k (omega (arith, slots-long i)),
     )
 
 same-length : tie.Need-same-length
@@ -105,7 +74,7 @@ same-length c = search needs
 returns : tie.Need-returns
 returns c =
     admits (c .before .before .before .before .before) _ _ _ (c .before .before .before .write-keys .ensures)
-    (record { number = refl; written = refl; more = sym (c .if2 .taken) })
+    (record { number = refl; written = refl; more = sym (c .if1 .taken) })
 
 same-length-2 : tie.Need-same-length-2
 same-length-2 c = search needs
@@ -113,14 +82,14 @@ same-length-2 c = search needs
 returns-2 : tie.Need-returns-2
 returns-2 c =
     admits (c .before .before .before .before .before) _ _ _ (c .before .before .before .write-keys .ensures)
-    (record { number = refl; written = refl; more = sym (c .if2 .left) })
+    (record { number = refl; written = refl; more = sym (c .if1 .left) })
 
 pub scan-from-spec : {M : Type 1} → statement M
 scan-from-spec =
     tie.close
     (tie.spec
-    locate-requires
-    add-at
+    seek-requires
+    past-requires
     write-keys-requires
     same-length
     returns

@@ -1,4 +1,4 @@
--- Computed cases of the refusals, each at the edge of its row.
+-- Computed cases of the refusals, each at the edge of its row. (14: TableCases.)
 use mathlib.Core.Path.{_≡_, refl}
 use mathlib.Core.List.{List, [], _++_}
 use Prim.Native.Nat.{ℕ, _-_}
@@ -6,6 +6,7 @@ use lib.ListN.{replicate}
 use Rattle.slots.specs.Segments.{heightOf, segmentsOf}
 use Rattle.slots.specs.Orders.{orderOf}
 use Rattle.slots.specs.Keys.{segmentOf}
+use Rattle.levels.specs.Tables.{tableOf}
 use Rattle.forecast.specs.declared.Forecast.{Forecast}
 use Rattle.forecast.specs.Cells.{cells}
 use Rattle.forecast.specs.Faults.{faultAt, faultOf}
@@ -14,16 +15,17 @@ use Rattle.rules.specs.declared.Profile.the-variants.{First}
 use Rattle.rules.specs.Shares.{shares}
 use Rattle.rules.specs.Placing.{outcome}
 use Rattle.rules.specs.Looking.{lookedUp}
-use Rattle.rules.specs.Checks.{checkList, check}
+use Rattle.rules.specs.Lent.{lend, tabled}
+use Rattle.rules.specs.Checks.{checkList, checkBoth, thenTable, checkRead}
 use Rattle.rules.specs.Calls.{make, lookup}
 use Rattle.rules.specs.Sums.{room, upFrom}
 
 -- slots of height 1, with a and b keys in their segments
-abbrev slots : ℕ → ℕ → List ℕ
+abbrev pub slots : ℕ → ℕ → List ℕ
 slots a b = upFrom 1 a ++ (replicate (64 - a) 0 ++ (upFrom 101 b ++ replicate (64 - b) 0))
 
 -- a forecast with one cell, in use, whose count is 0
-abbrev uncounted : Forecast
+abbrev pub uncounted : Forecast
 uncounted = record { markers = replicate 12 0; segments = replicate 12 0; counts = replicate 12 0; used = 1 }
 
 -- 64 keys are allowed at height 1, and 65 are not
@@ -54,22 +56,22 @@ unfolding checkList heightOf orderOf
 handed-over = (refl, refl)
 
 -- an unknown profile is told before a wrong length
-profile-told-first : (checkList 0 [] ≡ 15) × (checkList 3 (slots 1 0) ≡ 15) × (checkList 1 [] ≡ 1) × (make 3 [] .number ≡ 15)
+profile-told-first : (checkList 0 [] ≡ 15) × (checkList 3 (slots 1 0) ≡ 15) × (checkList 1 [] ≡ 1) × (make 3 (lend [] []) .number ≡ 15)
 unfolding checkList heightOf orderOf make
 profile-told-first = (refl, refl, refl, refl)
 
 -- a bad forecast is told of a good list, and not of a bad one
-forecast-told : check 1 (slots 33 31) uncounted ≡ 4
-unfolding check checkList heightOf orderOf faultOf faultAt cells segmentsOf segmentOf
+forecast-told : checkBoth 1 (slots 33 31) uncounted ≡ 4
+unfolding checkBoth checkList heightOf orderOf faultOf faultAt cells segmentsOf segmentOf
 forecast-told = refl
 
-list-told-first : check 1 (slots 33 32) uncounted ≡ 3
-unfolding check checkList heightOf orderOf faultOf faultAt cells segmentsOf segmentOf
+list-told-first : checkBoth 1 (slots 33 32) uncounted ≡ 3
+unfolding checkBoth checkList heightOf orderOf faultOf faultAt cells segmentsOf segmentOf
 list-told-first = refl
 
 -- key 0 is refused, not absent
-key-zero : lookup 1 (slots 1 0) 0 .number ≡ 5
-unfolding lookup lookedUp checkList heightOf orderOf segmentsOf segmentOf
+key-zero : lookup 1 (tabled (slots 1 0)) 0 .number ≡ 5
+unfolding lookup lookedUp checkRead thenTable checkList tableOf heightOf orderOf segmentsOf segmentOf
 key-zero = refl
 
 -- a full list tells a present key first, and takes no other though its segment has room
@@ -82,6 +84,6 @@ unfolding outcome segmentsOf
 full-by-keys = refl
 
 -- lookup tells the segment of a key that is there
-in-segment : lookup 1 (slots 1 1) 101 .segment ≡ 1
-unfolding lookup lookedUp checkList heightOf orderOf segmentsOf segmentOf
+in-segment : lookup 1 (tabled (slots 1 1)) 101 .segment ≡ 1
+unfolding lookup lookedUp checkRead thenTable checkList tableOf heightOf orderOf segmentsOf segmentOf
 in-segment = refl

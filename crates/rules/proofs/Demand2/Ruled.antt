@@ -1,45 +1,36 @@
--- Demand 2, second sentence: slots, forecast and moves are those of the rules, for one request and from make on.
+-- Demand 2, second sentence: slots, table, forecast and moves are those of the rules, for one request and from make on.
 use mathlib.Core.Path.{_≡_, refl, sym, ap, ap₂, subst, _∙_}
 use mathlib.Core.List.{List, [], _∷_}
 use Prim.Native.Nat.{ℕ, _*_, _^_, _≤_}
 use lib.Dec.{T}
 use lib.ListN.{length}
 use Rattle.slots.specs.Segments.{heightOf, render}
+use Rattle.levels.specs.Tables.{tableSize}
 use Rattle.forecast.specs.Cells.{forecastOf}
 use Rattle.rules.specs.declared.Request.{Request}
 use Rattle.rules.specs.declared.Request.the-variants.{Insert, Delete}
 use Rattle.rules.specs.declared.Profile.the-variants.{First, Second}
 use Rattle.rules.specs.Profiles.{isProfile, profileOf}
 use Rattle.rules.specs.Shares.{Shares, shares}
-use Rattle.rules.specs.Placing.{Room, Outcome, outcome}
-use Rattle.rules.specs.Checks.{sharesOf}
+use Rattle.rules.specs.Placing.{Room, outcome}
+use Rattle.rules.specs.Lent.{Lent, tabled}
+use Rattle.rules.specs.Checks.{sharesOf, checkBoth}
 use Rattle.rules.specs.Calls.{roomOf, Called, request, changed, Made}
 use Rattle.rules.specs.PlainSet as set
 use Rattle.rules.specs.Demand2.{Held, after, afterAll, made, ruled, ruledMoves, ruledAll, allRuledMoves, emptyRoom, moves, allMoves, AsRuled, RequestRuled, IsRoom, SequenceRuled}
 use Rattle.rules.proofs.Sharing.Table.{lawful}
 use Rattle.rules.proofs.Requests.StaysGood.{Good, good-next}
-use Rattle.rules.proofs.Requests.Checked.{checked, checked-known, slots-shown, forecast-shown, room-render}
+use Rattle.rules.proofs.Requests.Checked.{checked, checked-known, forecast-shown, room-render, table-render}
+use Rattle.rules.proofs.Requests.Tabled.{room-passes}
 use Rattle.rules.proofs.Requests.MadeEmpty.{good-empty, made-is}
-use Rattle.rules.proofs.Running.Singly.{request-is}
+use Rattle.rules.proofs.Running.Singly.{request-is, lent-shown}
 
 -- a room written out
 abbrev heldOf : Room → Held
-heldOf R = record { slots = render 0 (R .segments); forecast = forecastOf (R .cells) }
+heldOf R = record { lent = tabled (render 0 (R .segments)); forecast = forecastOf (R .cells) }
 
 abbrev called : ℕ → Request → Held → Called
-called profile q H = request profile q (H .slots) (H .forecast)
-
-as-ruled : (c : Called) (o : Outcome) → c ≡ changed o → AsRuled c o
-as-ruled c o e = record { answer = ap (λ (d : Called). d .answer) e; slots = ap (λ (d : Called). d .slots) e; forecast = ap (λ (d : Called). d .forecast) e }
-
--- ONE REQUEST on what passes the check
-pub request-ruled : RequestRuled
-request-ruled profile q slots F f c =
-    as-ruled (request profile q slots F) (outcome (sharesOf profile slots) q (roomOf slots F))
-    (ap (called profile q) (sym whole) ∙ request-is profile (checked-known profile slots F c) (heightOf (length slots)) (checked profile slots F c .0) (checked profile slots F c .1) (roomOf slots F) (checked profile slots F c .2) q)
-  where
-    whole : heldOf (roomOf slots F) ≡ record { slots = slots; forecast = F }
-    whole = λ i. record { slots = slots-shown profile slots F c i; forecast = forecast-shown profile slots F c f i }
+called profile q H = request profile q (H .lent) (H .forecast)
 
 -- FROM A GOOD ROOM written out, at height h
 module _ (profile : ℕ) (known : T (isProfile profile)) (h : ℕ) (from : 1 ≤ h) (to : h ≤ 6) where
@@ -48,8 +39,8 @@ module _ (profile : ℕ) (known : T (isProfile profile)) (h : ℕ) (from : 1 ≤
 
   module _ (R : Room) (g : Good S R) where
     after-is : (a : set.Ask) → after profile a (heldOf R) ≡ heldOf (ruled S a R)
-    after-is (set.Insert y) = ap (λ (c : Called). record { slots = c .slots; forecast = c .forecast }) (request-is profile known h from to R g (Insert y))
-    after-is (set.Delete y) = ap (λ (c : Called). record { slots = c .slots; forecast = c .forecast }) (request-is profile known h from to R g (Delete y))
+    after-is (set.Insert y) = ap (λ (c : Called). record { lent = c .lent; forecast = c .forecast }) (request-is profile known h from to R g (Insert y))
+    after-is (set.Delete y) = ap (λ (c : Called). record { lent = c .lent; forecast = c .forecast }) (request-is profile known h from to R g (Delete y))
     after-is (set.Lookup y) = refl
     after-is (set.Scan a out) = refl
 
@@ -65,12 +56,23 @@ module _ (profile : ℕ) (known : T (isProfile profile)) (h : ℕ) (from : 1 ≤
     good-ruled (set.Lookup y) = g
     good-ruled (set.Scan a out) = g
 
+    as-ruled : (q : Request) → AsRuled S (called profile q (heldOf R)) (outcome S q R)
+    as-ruled q =
+        let e : called profile q (heldOf R) ≡ changed (outcome S q R) = request-is profile known h from to R g q in
+        record {
+          answer = ap (λ (c : Called). c .answer) e;
+          slots = ap (λ (c : Called). c .lent .slots) e;
+          table = ap (λ (c : Called). c .lent .table) e ∙ table-render profile known h from to (outcome S q R .room) (good-next S (lawful (profileOf profile) h from to) q R g);
+          forecast = ap (λ (c : Called). c .forecast) e;
+        }
+
     is-room : IsRoom profile S R (heldOf R)
     is-room = record {
       slots = refl;
+      table = table-render profile known h from to R g;
       forecast = refl;
       shown = room-render profile known h from to R g;
-      next = λ q. as-ruled (called profile q (heldOf R)) (outcome S q R) (request-is profile known h from to R g q);
+      next = as-ruled;
     }
 
   -- any sequence
@@ -87,18 +89,33 @@ module _ (profile : ℕ) (known : T (isProfile profile)) (h : ℕ) (from : 1 ≤
   all-moves (a ∷ asks) R g =
       ap₂ {C = List ℕ} _∷_ (moves-are R g a) (ap {B = List ℕ} (λ H. allMoves profile asks H) (after-is R g a) ∙ all-moves asks (ruled S a R) (good-ruled R g a))
 
+-- ONE REQUEST on what passes the check
+pub request-ruled : RequestRuled
+request-ruled profile q L F f c =
+    subst (λ (H : Held). AsRuled (sharesOf profile slots) (called profile q H) (outcome (sharesOf profile slots) q (roomOf slots F))) whole
+    (as-ruled profile (checked-known profile slots F both) (heightOf (length slots)) (checked profile slots F both .0) (checked profile slots F both .1) (roomOf slots F) (checked profile slots F both .2) q)
+  where
+    slots : List ℕ
+    slots = L .slots
+
+    both : checkBoth profile slots F ≡ 0
+    both = room-passes profile L F c
+
+    whole : heldOf (roomOf slots F) ≡ record { lent = L; forecast = F }
+    whole = λ i. record { lent = lent-shown profile L F c i; forecast = forecast-shown profile slots F both f i }
+
 -- FROM MAKE
-module _ (profile : ℕ) (known : T (isProfile profile)) (h : ℕ) (from : 1 ≤ h) (to : h ≤ 6) (slots : List ℕ) (e : length slots ≡ 64 * 2 ^ h) (asks : List set.Ask) where
+module _ (profile : ℕ) (known : T (isProfile profile)) (h : ℕ) (from : 1 ≤ h) (to : h ≤ 6) (L : Lent) (e : length (L .slots) ≡ 64 * 2 ^ h) (t : length (L .table) ≡ tableSize h) (asks : List set.Ask) where
   abbrev U : Shares
   U = shares (profileOf profile) h
 
-  begins : made profile slots ≡ heldOf (emptyRoom h)
-  begins = ap (λ (m : Made). record { slots = m .slots; forecast = m .forecast }) (made-is profile known h from to slots e)
+  begins : made profile L ≡ heldOf (emptyRoom h)
+  begins = ap (λ (m : Made). record { lent = m .lent; forecast = m .forecast }) (made-is profile known h from to L e t)
 
-  there : afterAll profile asks (made profile slots) ≡ heldOf (ruledAll U asks (emptyRoom h))
+  there : afterAll profile asks (made profile L) ≡ heldOf (ruledAll U asks (emptyRoom h))
   there = ap {B = Held} (λ H. afterAll profile asks H) begins ∙ all-after profile known h from to asks (emptyRoom h) (good-empty (profileOf profile) h)
 
-  ruled-made : IsRoom profile U (ruledAll U asks (emptyRoom h)) (afterAll profile asks (made profile slots)) × (allMoves profile asks (made profile slots) ≡ allRuledMoves U asks (emptyRoom h))
+  ruled-made : IsRoom profile U (ruledAll U asks (emptyRoom h)) (afterAll profile asks (made profile L)) × (allMoves profile asks (made profile L) ≡ allRuledMoves U asks (emptyRoom h))
   ruled-made = (
     subst (IsRoom profile U (ruledAll U asks (emptyRoom h))) (sym there)
         (is-room profile known h from to (ruledAll U asks (emptyRoom h)) (good-all profile known h from to asks (emptyRoom h) (good-empty (profileOf profile) h))),
@@ -106,5 +123,5 @@ module _ (profile : ℕ) (known : T (isProfile profile)) (h : ℕ) (from : 1 ≤
   )
 
 pub sequence-ruled : SequenceRuled
-sequence-ruled First h from to slots e asks = ruled-made 1 tt h from to slots e asks
-sequence-ruled Second h from to slots e asks = ruled-made 2 tt h from to slots e asks
+sequence-ruled First h from to L e t asks = ruled-made 1 tt h from to L e t asks
+sequence-ruled Second h from to L e t asks = ruled-made 2 tt h from to L e t asks

@@ -1,4 +1,4 @@
--- The number of the check, case by case: of the list alone, and of list and forecast. What lookup and scan come to by it.
+-- The number of the check, case by case: of the list alone, of list and forecast, and of all that is lent. What lookup and scan come to by it.
 use mathlib.Core.Path.{_≡_, refl}
 use mathlib.Core.Bool.{Bool, true, false, not}
 use mathlib.Core.Logic.{_≢_}
@@ -17,9 +17,11 @@ use Rattle.forecast.specs.Faults.{faultOf, isSound}
 use Rattle.rules.specs.Profiles.{isProfile}
 use Rattle.rules.specs.Shares.{capacity, cellsOf}
 use Rattle.rules.specs.Looking.{notFound, lookedUp, scanned}
-use Rattle.rules.specs.Checks.{sharesOf, checkList, check}
+use Rattle.rules.specs.Lent.{Lent}
+use Rattle.rules.specs.Checks.{sharesOf, checkList, checkBoth, checkRead, check}
 use Rattle.rules.specs.Calls.{lookup, scan}
 use Rattle.rules.proofs.Requests.Checked.{both-pass}
+use Rattle.rules.proofs.Requests.Tabled.{number-stays}
 
 -- THE LIST
 module _ (profile : ℕ) (slots : List ℕ) where
@@ -46,16 +48,16 @@ module _ (profile : ℕ) (slots : List ℕ) where
 
 -- LIST AND FORECAST
 module _ (profile : ℕ) (slots : List ℕ) (F : Forecast) where
-  pub list-first : checkList profile slots ≢ 0 → check profile slots F ≡ checkList profile slots
-  unfolding check
+  pub list-first : checkList profile slots ≢ 0 → checkBoth profile slots F ≡ checkList profile slots
+  unfolding checkBoth
   list-first n = rw (ne-eqb (checkList profile slots) 0 n)
 
-  pub wrong-forecast : checkList profile slots ≡ 0 → isSound (faultOf (cellsOf (sharesOf profile slots)) (segmentsOf slots) F) ≡ false → check profile slots F ≡ 4
-  unfolding check
+  pub wrong-forecast : checkList profile slots ≡ 0 → isSound (faultOf (cellsOf (sharesOf profile slots)) (segmentsOf slots) F) ≡ false → checkBoth profile slots F ≡ 4
+  unfolding checkBoth
   wrong-forecast e s = rw (eq-eqb (checkList profile slots) 0 e, s)
 
-  pub both-sound : checkList profile slots ≡ 0 → isSound (faultOf (cellsOf (sharesOf profile slots)) (segmentsOf slots) F) ≡ true → check profile slots F ≡ 0
-  unfolding check
+  pub both-sound : checkList profile slots ≡ 0 → isSound (faultOf (cellsOf (sharesOf profile slots)) (segmentsOf slots) F) ≡ true → checkBoth profile slots F ≡ 0
+  unfolding checkBoth
   both-sound e s = rw (eq-eqb (checkList profile slots) 0 e, s)
 
 -- IN ANOTHER PROFILE what passes in one differs by its number of keys alone
@@ -74,25 +76,36 @@ module _ (m n : ℕ) (slots : List ℕ) where
       go true true t false false c d e = absurd (omega arith)
       go true true t false true c d e = refl
 
-  pub both-in : (F : Forecast) → check m slots F ≡ 0 → checkList n slots ≡ 0 → check n slots F ≡ 0
+  pub both-in : (F : Forecast) → checkBoth m slots F ≡ 0 → checkList n slots ≡ 0 → checkBoth n slots F ≡ 0
   both-in F c e = both-sound n slots F e (is-true (isSound (faultOf (cellsOf (sharesOf m slots)) (segmentsOf slots) F)) (both-pass m slots F c .1))
 
--- LOOKUP
-module _ (profile : ℕ) (slots : List ℕ) (y : ℕ) where
-  pub lookup-refused : checkList profile slots ≢ 0 → lookup profile slots y ≡ notFound (checkList profile slots)
-  unfolding lookup
-  lookup-refused n = rw (ne-eqb (checkList profile slots) 0 n)
+-- WITH THE TABLE, which is tested last (that all passes: Requests/Tabled)
+module _ (profile : ℕ) (L : Lent) where
+  pub read-first : checkList profile (L .slots) ≢ 0 → checkRead profile L ≡ checkList profile (L .slots)
+  unfolding checkRead
+  read-first n = number-stays (checkList profile (L .slots)) L n
 
-  pub lookup-passed : checkList profile slots ≡ 0 → lookup profile slots y ≡ lookedUp y (segmentsOf slots)
+  module _ (F : Forecast) where
+    pub both-first : checkBoth profile (L .slots) F ≢ 0 → check profile L F ≡ checkBoth profile (L .slots) F
+    unfolding check
+    both-first n = number-stays (checkBoth profile (L .slots) F) L n
+
+-- LOOKUP
+module _ (profile : ℕ) (L : Lent) (y : ℕ) where
+  pub lookup-refused : checkRead profile L ≢ 0 → lookup profile L y ≡ notFound (checkRead profile L)
   unfolding lookup
-  lookup-passed e = rw (eq-eqb (checkList profile slots) 0 e)
+  lookup-refused n = rw (ne-eqb (checkRead profile L) 0 n)
+
+  pub lookup-passed : checkRead profile L ≡ 0 → lookup profile L y ≡ lookedUp y (segmentsOf (L .slots))
+  unfolding lookup
+  lookup-passed e = rw (eq-eqb (checkRead profile L) 0 e)
 
 -- SCAN
-module _ (profile : ℕ) (slots : List ℕ) (a : ℕ) (out : List ℕ) where
-  pub scan-refused : checkList profile slots ≢ 0 → scan profile slots a out ≡ record { number = checkList profile slots; written = 0; more = false; output = out }
+module _ (profile : ℕ) (L : Lent) (a : ℕ) (out : List ℕ) where
+  pub scan-refused : checkRead profile L ≢ 0 → scan profile L a out ≡ record { number = checkRead profile L; written = 0; more = false; output = out }
   unfolding scan
-  scan-refused n = rw (ne-eqb (checkList profile slots) 0 n)
+  scan-refused n = rw (ne-eqb (checkRead profile L) 0 n)
 
-  pub scan-passed : checkList profile slots ≡ 0 → scan profile slots a out ≡ scanned a (segmentsOf slots) out
+  pub scan-passed : checkRead profile L ≡ 0 → scan profile L a out ≡ scanned a (segmentsOf (L .slots)) out
   unfolding scan
-  scan-passed e = rw (eq-eqb (checkList profile slots) 0 e)
+  scan-passed e = rw (eq-eqb (checkRead profile L) 0 e)

@@ -2,7 +2,7 @@
 use mathlib.Core.Path.{_≡_, refl}
 use mathlib.Core.Bool.{Bool, true, false, not}
 use mathlib.Core.List.{List, [], _∷_, _++_}
-use Prim.Native.Nat.{ℕ}
+use Prim.Native.Nat.{ℕ, _*_, _^_}
 use native.Mathlib.Omega.{arith}
 use lib.Dec.{leb, ltb, eqb}
 use lib.ListN.{length}
@@ -11,6 +11,7 @@ use Rattle.lists.proofs.Tests.{neqb→ne}
 use Rattle.slots.specs.Segments.{keys, live, heightOf, segmentsOf}
 use Rattle.slots.specs.Keys.{member}
 use Rattle.slots.specs.Orders.{orderOf, isKept}
+use Rattle.levels.specs.Tables.{tableSize, same}
 use Rattle.forecast.specs.declared.Forecast.{Forecast}
 use Rattle.forecast.specs.Faults.{faultOf, isSound}
 use Rattle.rules.specs.declared.Request.{Request}
@@ -19,17 +20,20 @@ use Rattle.rules.specs.Profiles.{isProfile}
 use Rattle.rules.specs.Shares.{capacity, cellsOf}
 use Rattle.rules.specs.Placing.{Outcome, insertKey, deleteKey, outcome}
 use Rattle.rules.specs.Looking.{Found, Scanned, scanned}
-use Rattle.rules.specs.Checks.{sharesOf, checkList, check}
+use Rattle.rules.specs.Lent.{Lent, rightTable}
+use Rattle.rules.specs.Checks.{sharesOf, checkList, checkBoth, thenTable, checkRead, check}
 use Rattle.rules.specs.Calls.{roomOf, Made, make, lookup, scan, Called, unchanged, changed, request}
-use Rattle.rules.specs.Rows.{Row, Tells, row1, row15, row2, row3, row4, row5, row6, row7, row8, listRows, bothRows}
+use Rattle.rules.specs.Rows.{Row, Tells, row1, row15, row2, row3, row4, row5, row6, row7, row8, row14, row14Size, listRows, readRows, bothRows}
 use Rattle.forecast.specs.Tidy.{Roomy}
 use Rattle.rules.specs.Demand1.{MakeTells, CheckTells, CheckPasses, LookupTells, ScanTells, InsertTells, DeleteTells}
 use Rattle.rules.proofs.Requests.Accepted.{settled-number}
 use Rattle.rules.proofs.Sets.SetLookup.{looked-number}
 use Rattle.rules.proofs.Requests.Checked.{Passed, passed, list-passes}
+use Rattle.rules.proofs.Requests.Tabled.{room-passes}
 use Rattle.rules.proofs.Refusals.RowsInOrder.{Numbered, tells-if, tells-more, tells-none}
 use Rattle.rules.proofs.Refusals.Rows.{decides-1, decides-15, decides-2, decides-3, decides-5, decides-6, decides-7, decides-8}
 use Rattle.rules.proofs.Refusals.Row4.{decides-4}
+use Rattle.rules.proofs.Refusals.Row14.{decides-14, decides-14-size}
 
 abbrev itself : ℕ → ℕ
 itself n = n
@@ -37,9 +41,10 @@ itself n = n
 -- MAKE
 pub make-tells : MakeTells
 unfolding make
-make-tells profile slots =
-    tells-if (λ (m : Made). m .number) (not (isProfile profile)) (row15 profile) (row1 slots ∷ []) _ _ refl (decides-15 profile) λ t.
-    tells-if (λ (m : Made). m .number) (eqb (heightOf (length slots)) 0) (row1 slots) [] _ _ refl (decides-1 slots) (λ u. refl)
+make-tells profile L =
+    tells-if (λ (m : Made). m .number) (not (isProfile profile)) (row15 profile) (row1 (L .slots) ∷ row14Size L ∷ []) _ _ refl (decides-15 profile) λ t.
+    tells-if (λ (m : Made). m .number) (eqb (heightOf (length (L .slots))) 0) (row1 (L .slots)) (row14Size L ∷ []) _ _ refl (decides-1 (L .slots)) λ u.
+    tells-if (λ (m : Made). m .number) (not (eqb (length (L .table)) (tableSize (heightOf (length (L .slots)))))) (row14Size L) [] _ _ refl (decides-14-size L u) (λ v. refl)
 
 -- CHECK, of the list alone
 list-numbered : (profile : ℕ) (slots : List ℕ) → Numbered (listRows profile slots)
@@ -53,30 +58,49 @@ list-tells profile slots =
     tells-if itself (not (isKept (orderOf slots))) (row2 slots) (row3 profile slots ∷ []) 2 _ refl (decides-2 slots) λ u.
     tells-if itself (ltb (capacity (sharesOf profile slots)) (length (live slots))) (row3 profile slots) [] 3 0 refl (decides-3 profile slots t) λ v. refl
 
--- and with the forecast
-both-numbered : (profile : ℕ) (slots : List ℕ) (F : Forecast) → Numbered (bothRows profile slots F)
-both-numbered profile slots F = omega arith
+-- the table after it
+table-tells : (L : Lent) → length (L .slots) ≡ 64 * 2 ^ heightOf (length (L .slots)) → Tells (row14 L ∷ []) (if not (same (L .table) (rightTable (L .slots))) then 14 else 0)
+table-tells L number = tells-if itself (not (same (L .table) (rightTable (L .slots)))) (row14 L) [] 14 0 refl (decides-14 L number) λ t. refl
 
-pub check-tells : CheckTells
-unfolding check
-check-tells profile slots F r =
+read-numbered : (profile : ℕ) (L : Lent) → Numbered (readRows profile L)
+read-numbered profile L = omega arith
+
+read-tells : (profile : ℕ) (L : Lent) → Tells (readRows profile L) (checkRead profile L)
+unfolding checkRead thenTable
+read-tells profile L =
+    tells-more itself (listRows profile (L .slots)) (row14 L ∷ []) (checkList profile (L .slots)) _ _ (list-numbered profile (L .slots)) (list-tells profile (L .slots)) refl λ e.
+    table-tells L (passed profile (L .slots) e .number)
+
+-- and the forecast between
+forecast-tells : (profile : ℕ) (slots : List ℕ) (F : Forecast) → Roomy F → Tells (listRows profile slots ++ (row4 slots F ∷ [])) (checkBoth profile slots F)
+unfolding checkBoth
+forecast-tells profile slots F r =
     tells-more itself (listRows profile slots) (row4 slots F ∷ []) (checkList profile slots) _ _ (list-numbered profile slots) (list-tells profile slots) refl λ e.
     tells-if itself (not (isSound (faultOf (cellsOf (sharesOf profile slots)) (segmentsOf slots) F))) (row4 slots F) [] 4 0 refl (decides-4 profile slots (passed profile slots e) F r) λ t. refl
 
+both-numbered : (profile : ℕ) (L : Lent) (F : Forecast) → Numbered (bothRows profile L F)
+both-numbered profile L F = omega arith
+
+pub check-tells : CheckTells
+unfolding check thenTable
+check-tells profile L F r =
+    tells-more itself (listRows profile (L .slots) ++ (row4 (L .slots) F ∷ [])) (row14 L ∷ []) (checkBoth profile (L .slots) F) _ _ (omega arith) (forecast-tells profile (L .slots) F r) refl λ e.
+    table-tells L (passed profile (L .slots) (list-passes profile (L .slots) F e) .number)
+
 pub check-passes : CheckPasses
-check-passes profile slots F r = tells-none (bothRows profile slots F) (check profile slots F) (both-numbered profile slots F) (check-tells profile slots F r)
+check-passes profile L F r = tells-none (bothRows profile L F) (check profile L F) (both-numbered profile L F) (check-tells profile L F r)
 
 -- LOOKUP AND SCAN
 pub lookup-tells : LookupTells
 unfolding lookup
-lookup-tells profile slots y =
-    tells-more (λ (f : Found). f .number) (listRows profile slots) (row5 y ∷ []) (checkList profile slots) _ _ (list-numbered profile slots) (list-tells profile slots) refl λ e.
-    rw (looked-number y (segmentsOf slots)) (tells-if itself (eqb y 0) (row5 y) [] 5 0 refl (decides-5 y) λ t. refl)
+lookup-tells profile L y =
+    tells-more (λ (f : Found). f .number) (readRows profile L) (row5 y ∷ []) (checkRead profile L) _ _ (read-numbered profile L) (read-tells profile L) refl λ e.
+    rw (looked-number y (segmentsOf (L .slots))) (tells-if itself (eqb y 0) (row5 y) [] 5 0 refl (decides-5 y) λ t. refl)
 
 pub scan-tells : ScanTells
 unfolding scan scanned
-scan-tells profile slots a out =
-    tells-more (λ (s : Scanned). s .number) (listRows profile slots) [] (checkList profile slots) _ (scanned a (segmentsOf slots) out) (list-numbered profile slots) (list-tells profile slots) refl λ e. refl
+scan-tells profile L a out =
+    tells-more (λ (s : Scanned). s .number) (readRows profile L) [] (checkRead profile L) _ (scanned a (segmentsOf (L .slots)) out) (read-numbered profile L) (read-tells profile L) refl λ e. refl
 
 -- INSERT AND DELETE
 abbrev number : Outcome → ℕ
@@ -99,28 +123,32 @@ module _ (profile : ℕ) (slots : List ℕ) (F : Forecast) (K : Passed profile s
       settled-number (sharesOf profile slots) _ _ _ _ _ _
 
 -- a request tells what its check tells, then what its outcome tells
-request-tells : (profile : ℕ) (q : Request) (rest : List Row) (slots : List ℕ) (F : Forecast) → Roomy F
-    → (check profile slots F ≡ 0 → Tells rest (number (outcome (sharesOf profile slots) q (roomOf slots F))))
-    → Tells (bothRows profile slots F ++ rest) (request profile q slots F .answer .number)
+request-tells : (profile : ℕ) (q : Request) (rest : List Row) (L : Lent) (F : Forecast) → Roomy F
+    → (check profile L F ≡ 0 → Tells rest (number (outcome (sharesOf profile (L .slots)) q (roomOf (L .slots) F))))
+    → Tells (bothRows profile L F ++ rest) (request profile q L F .answer .number)
 unfolding request
-request-tells profile q rest slots F r t =
-    tells-more told (bothRows profile slots F) rest (check profile slots F) (unchanged slots F (check profile slots F)) _ (both-numbered profile slots F) (check-tells profile slots F r) refl λ e.
-    rw (same (eqb (number o) 0)) (t e)
+request-tells profile q rest L F r t =
+    tells-more told (bothRows profile L F) rest (check profile L F) (unchanged L F (check profile L F)) _ (both-numbered profile L F) (check-tells profile L F r) refl λ e.
+    rw (either (eqb (number o) 0)) (t e)
   where
     told : Called → ℕ
     told c = c .answer .number
 
     o : Outcome
-    o = outcome (sharesOf profile slots) q (roomOf slots F)
+    o = outcome (sharesOf profile (L .slots)) q (roomOf (L .slots) F)
 
-    same : (b : Bool) → told (if not b then unchanged slots F (number o) else changed o) ≡ number o
-    same true = refl
-    same false = refl
+    either : (b : Bool) → told (if not b then unchanged L F (number o) else changed o) ≡ number o
+    either true = refl
+    either false = refl
+
+-- all before the outcome has passed
+before : (profile : ℕ) (L : Lent) (F : Forecast) → check profile L F ≡ 0 → Passed profile (L .slots)
+before profile L F e = passed profile (L .slots) (list-passes profile (L .slots) F (room-passes profile L F e))
 
 pub insert-tells : InsertTells
-insert-tells profile slots F y r =
-    request-tells profile (Insert y) (row5 y ∷ row6 slots y ∷ row8 profile slots ∷ []) slots F r (λ e. insert-rows profile slots F (passed profile slots (list-passes profile slots F e)) y)
+insert-tells profile L F y r =
+    request-tells profile (Insert y) (row5 y ∷ row6 (L .slots) y ∷ row8 profile (L .slots) ∷ []) L F r (λ e. insert-rows profile (L .slots) F (before profile L F e) y)
 
 pub delete-tells : DeleteTells
-delete-tells profile slots F y r =
-    request-tells profile (Delete y) (row5 y ∷ row7 slots y ∷ []) slots F r (λ e. delete-rows profile slots F (passed profile slots (list-passes profile slots F e)) y)
+delete-tells profile L F y r =
+    request-tells profile (Delete y) (row5 y ∷ row7 (L .slots) y ∷ []) L F r (λ e. delete-rows profile (L .slots) F (before profile L F e) y)

@@ -8,26 +8,28 @@ use lib.ListN.{length, replicate}
 use Rattle.lists.specs.Choice.{if_then_else_}
 use Rattle.slots.specs.Segments.{heightOf, segmentsOf, keys}
 use Rattle.slots.specs.Keys.{member, segmentOf}
+use Rattle.levels.specs.Tables.{tableSize}
 use Rattle.forecast.specs.Cells.{forecastOf}
 use Rattle.rules.specs.Profiles.{isProfile}
 use Rattle.rules.specs.Placing.{Outcome, outcome}
 use Rattle.rules.specs.Looking.{Found, notFound, lookedUp, Scanned, scanned}
-use Rattle.rules.specs.Checks.{sharesOf, checkList, check}
-use Rattle.rules.specs.Calls.{roomOf, Made, make, lookup, scan, Called, unchanged, changed, request}
+use Rattle.rules.specs.Lent.{lend}
+use Rattle.rules.specs.Checks.{sharesOf, checkRead, check}
+use Rattle.rules.specs.Calls.{roomOf, Made, notMade, make, lookup, scan, Called, unchanged, changed, request}
 use Rattle.rules.specs.Demand1.{RequestRefused, LookupRefused, ScanRefused, MakeRefused}
 
 -- an insert or delete
 pub request-refused : RequestRefused
 unfolding request
-request-refused profile q slots F = go (eqb (check profile slots F) 0) (eqb (o .answer .number) 0) (eqb→eq _ 0)
+request-refused profile q L F = go (eqb (check profile L F) 0) (eqb (o .answer .number) 0) (eqb→eq _ 0)
   where
     o : Outcome
-    o = outcome (sharesOf profile slots) q (roomOf slots F)
+    o = outcome (sharesOf profile (L .slots)) q (roomOf (L .slots) F)
 
     r : Bool → Bool → Called
-    r a b = if not a then unchanged slots F (check profile slots F) else if not b then unchanged slots F (o .answer .number) else changed o
+    r a b = if not a then unchanged L F (check profile L F) else if not b then unchanged L F (o .answer .number) else changed o
 
-    go : (a b : Bool) → (T b → o .answer .number ≡ 0) → r a b .answer .number ≢ 0 → r a b ≡ unchanged slots F (r a b .answer .number)
+    go : (a b : Bool) → (T b → o .answer .number ≡ 0) → r a b .answer .number ≢ 0 → r a b ≡ unchanged L F (r a b .answer .number)
     go false b e n = refl
     go true false e n = refl
     go true true e n = absurd (n (e tt))
@@ -35,13 +37,13 @@ request-refused profile q slots F = go (eqb (check profile slots F) 0) (eqb (o .
 -- a lookup
 pub lookup-refused : LookupRefused
 unfolding lookup lookedUp
-lookup-refused profile slots y = go (eqb (checkList profile slots) 0) (eqb y 0) (member y (keys (segmentsOf slots)))
+lookup-refused profile L y = go (eqb (checkRead profile L) 0) (eqb y 0) (member y (keys (segmentsOf (L .slots))))
   where
     r : Bool → Bool → Bool → Found
     r a b c =
-        if not a then notFound (checkList profile slots)
+        if not a then notFound (checkRead profile L)
         else if b then notFound 5
-        else if c then record { number = 0; present = true; segment = segmentOf (segmentsOf slots) y }
+        else if c then record { number = 0; present = true; segment = segmentOf (segmentsOf (L .slots)) y }
         else notFound 0
 
     go : (a b c : Bool) → r a b c .number ≢ 0 → r a b c ≡ notFound (r a b c .number)
@@ -53,13 +55,13 @@ lookup-refused profile slots y = go (eqb (checkList profile slots) 0) (eqb y 0) 
 -- a scan
 pub scan-refused : ScanRefused
 unfolding scan scanned
-scan-refused profile slots a out = go (eqb (checkList profile slots) 0)
+scan-refused profile L a out = go (eqb (checkRead profile L) 0)
   where
     none : Scanned
-    none = record { number = checkList profile slots; written = 0; more = false; output = out }
+    none = record { number = checkRead profile L; written = 0; more = false; output = out }
 
     r : Bool → Scanned
-    r c = if not c then none else scanned a (segmentsOf slots) out
+    r c = if not c then none else scanned a (segmentsOf (L .slots)) out
 
     go : (c : Bool) → r c .number ≢ 0 → r c ≡ record { number = r c .number; written = 0; more = false; output = out }
     go false n = refl
@@ -68,15 +70,18 @@ scan-refused profile slots a out = go (eqb (checkList profile slots) 0)
 -- making empty
 pub make-refused : MakeRefused
 unfolding make
-make-refused profile slots = go (isProfile profile) (eqb (heightOf (length slots)) 0)
+make-refused profile L =
+    go (isProfile profile) (eqb (heightOf (length (L .slots))) 0) (eqb (length (L .table)) (tableSize (heightOf (length (L .slots)))))
   where
-    r : Bool → Bool → Made
-    r n c =
-        if not n then record { slots = slots; forecast = forecastOf []; number = 15 }
-        else if c then record { slots = slots; forecast = forecastOf []; number = 1 }
-        else record { slots = replicate (length slots) 0; forecast = forecastOf []; number = 0 }
+    r : Bool → Bool → Bool → Made
+    r n c t =
+        if not n then notMade L 15
+        else if c then notMade L 1
+        else if not t then notMade L 14
+        else record { lent = lend (replicate (length (L .slots)) 0) (replicate (length (L .table)) 0); forecast = forecastOf []; number = 0 }
 
-    go : (n c : Bool) → r n c .number ≢ 0 → r n c ≡ record { slots = slots; forecast = forecastOf []; number = r n c .number }
-    go false c e = refl
-    go true true e = refl
-    go true false e = absurd (e refl)
+    go : (n c t : Bool) → r n c t .number ≢ 0 → r n c t ≡ notMade L (r n c t .number)
+    go false c t e = refl
+    go true true t e = refl
+    go true false false e = refl
+    go true false true e = absurd (e refl)

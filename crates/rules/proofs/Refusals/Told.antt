@@ -6,7 +6,7 @@ use borrow.Author.Tests.{ne-eqb}
 use lib.Dec.{eqb}
 use Rattle.lists.specs.Choice.{if_then_else_}
 use Rattle.rules.specs.declared.Refusal.{Refusal}
-use Rattle.rules.specs.declared.Refusal.the-variants.{UnknownProfile, WrongLength, WrongOrder, TooManyKeys, WrongForecast, KeyZero, KeyPresent, KeyAbsent, Full, BadRecord, AllowancePassed}
+use Rattle.rules.specs.declared.Refusal.the-variants.{UnknownProfile, WrongLength, WrongOrder, TooManyKeys, WrongForecast, WrongTable, KeyZero, KeyPresent, KeyAbsent, Full, BadRecord, AllowancePassed}
 use Rattle.rules.specs.declared.Verdict.{Verdict}
 use Rattle.rules.specs.declared.Verdict.the-variants.{Refused, Accepted}
 use Rattle.rules.specs.Refusals.{refusalNumber, verdictNumber}
@@ -19,6 +19,7 @@ named n =
     else if eqb n 2 then WrongOrder
     else if eqb n 3 then TooManyKeys
     else if eqb n 4 then WrongForecast
+    else if eqb n 14 then WrongTable
     else if eqb n 5 then KeyZero
     else if eqb n 6 then KeyPresent
     else if eqb n 7 then KeyAbsent
@@ -33,6 +34,7 @@ back WrongLength = (omega arith, refl)
 back WrongOrder = (omega arith, refl)
 back TooManyKeys = (omega arith, refl)
 back WrongForecast = (omega arith, refl)
+back WrongTable = (omega arith, refl)
 back KeyZero = (omega arith, refl)
 back KeyPresent = (omega arith, refl)
 back KeyAbsent = (omega arith, refl)

@@ -1,5 +1,5 @@
 -- What passes the check is good and is what its slots and cells show; what is good, written out, passes the check.
-use mathlib.Core.Path.{_≡_, refl, ap, _∙_}
+use mathlib.Core.Path.{_≡_, refl, ap, ap₂, _∙_}
 use mathlib.Core.Bool.{Bool, true, false, not}
 use mathlib.Core.Logic.{inl, inr, _≢_}
 use mathlib.Core.List.{List}
@@ -15,6 +15,7 @@ use Rattle.slots.specs.Orders.{orderOf, isKept}
 use Rattle.slots.proofs.HeightLaws.{height-is, height-cases}
 use Rattle.slots.proofs.Orders.{Ordered, Solid, kept→}
 use Rattle.slots.proofs.Render.{keys-segments, length-segments, sizes-segments, listed-segments, render-segments, length-render, live-render, segments-render, kept-render}
+use Rattle.levels.specs.Tables.{tableOf}
 use Rattle.forecast.specs.declared.Forecast.{Forecast}
 use Rattle.forecast.specs.Cells.{usedCells, forecastOf}
 use Rattle.forecast.specs.Faults.{faultOf, isSound}
@@ -23,7 +24,8 @@ use Rattle.forecast.proofs.Faults.{sound-ruled, sound-whole, ruled-sound}
 use Rattle.rules.specs.Profiles.{isProfile, profileOf}
 use Rattle.rules.specs.Shares.{shares, capacity, cellsOf}
 use Rattle.rules.specs.Placing.{Room}
-use Rattle.rules.specs.Checks.{sharesOf, checkList, check}
+use Rattle.rules.specs.Lent.{rightTable}
+use Rattle.rules.specs.Checks.{sharesOf, checkList, checkBoth}
 use Rattle.rules.specs.Calls.{roomOf}
 use Rattle.forecast.specs.Tidy.{Roomy}
 use Rattle.rules.specs.Readings.{Proper}
@@ -58,8 +60,8 @@ passed profile slots e =
         ]
 
 -- list and forecast
-pub both-pass : (profile : ℕ) (slots : List ℕ) (F : Forecast) → check profile slots F ≡ 0 → (checkList profile slots ≡ 0) × T (isSound (faultOf (cellsOf (sharesOf profile slots)) (segmentsOf slots) F))
-unfolding check
+pub both-pass : (profile : ℕ) (slots : List ℕ) (F : Forecast) → checkBoth profile slots F ≡ 0 → (checkList profile slots ≡ 0) × T (isSound (faultOf (cellsOf (sharesOf profile slots)) (segmentsOf slots) F))
+unfolding checkBoth
 both-pass profile slots F e = go (eqb (checkList profile slots) 0) (eqb→eq _ _) (neqb→ne _ _) (isSound (faultOf (cellsOf (sharesOf profile slots)) (segmentsOf slots) F)) e
   where
     go : (a : Bool) → (T a → checkList profile slots ≡ 0) → (T (not a) → checkList profile slots ≢ 0) → (b : Bool) → _≡_ {A = ℕ} (if not a then checkList profile slots else if not b then 4 else 0) 0
@@ -68,7 +70,7 @@ both-pass profile slots F e = go (eqb (checkList profile slots) 0) (eqb→eq _ _
     go true p q false e = absurd (omega arith)
     go false p q b e = absurd (q tt e)
 
-pub list-passes : (profile : ℕ) (slots : List ℕ) (F : Forecast) → check profile slots F ≡ 0 → checkList profile slots ≡ 0
+pub list-passes : (profile : ℕ) (slots : List ℕ) (F : Forecast) → checkBoth profile slots F ≡ 0 → checkList profile slots ≡ 0
 list-passes profile slots F e = both-pass profile slots F e .0
 
 module _ (profile : ℕ) (slots : List ℕ) (P : Passed profile slots) where
@@ -84,7 +86,7 @@ module _ (profile : ℕ) (slots : List ℕ) (P : Passed profile slots) where
   pub slots-rendered : render 0 (segmentsOf slots) ≡ slots
   slots-rendered = render-segments slots (2 ^ heightOf (length slots)) (P .number) (P .solid)
 
-module _ (profile : ℕ) (slots : List ℕ) (F : Forecast) (e : check profile slots F ≡ 0) where
+module _ (profile : ℕ) (slots : List ℕ) (F : Forecast) (e : checkBoth profile slots F ≡ 0) where
   pub checked : (1 ≤ heightOf (length slots)) × (heightOf (length slots) ≤ 6) × Good (sharesOf profile slots) (roomOf slots F)
   checked = (
     passed profile slots (both-pass profile slots F e .0) .from,
@@ -119,6 +121,10 @@ module _ (profile : ℕ) (known : T (isProfile profile)) (h : ℕ) (from : 1 ≤
   pub height-render : heightOf (length (render 0 (R .segments))) ≡ h
   height-render = ap heightOf length-good ∙ height-is h from to
 
+  -- its right table is that of its segments
+  pub table-render : rightTable (render 0 (R .segments)) ≡ tableOf h (R .segments)
+  table-render = ap₂ {C = List ℕ} tableOf height-render (segments-render (R .segments) (G .sizes) (G .proper .listed .live))
+
   pub room-render : roomOf (render 0 (R .segments)) (forecastOf (R .cells)) ≡ R
   room-render = λ i. record {
     segments = segments-render (R .segments) (G .sizes) (G .proper .listed .live) i;
@@ -137,8 +143,8 @@ module _ (profile : ℕ) (known : T (isProfile profile)) (h : ℕ) (from : 1 ≤
         le-ltb (capacity (shares (profileOf profile) h)) (length (keys (R .segments))) (G .room),
       ) refl
 
-  pub check-render : check profile (render 0 (R .segments)) (forecastOf (R .cells)) ≡ 0
-  unfolding check
+  pub check-render : checkBoth profile (render 0 (R .segments)) (forecastOf (R .cells)) ≡ 0
+  unfolding checkBoth
   check-render =
       rw (
         list-render,

@@ -1,30 +1,30 @@
--- A list made empty: it passes the check and has no key.
+-- A list made empty: it passes the check with its table, and has no key.
 use mathlib.Core.Path.{_≡_, refl, sym, ap, _∙_}
 use mathlib.Core.Logic.{inl, inr}
 use mathlib.Core.List.{List, [], List·Memᴰ·not-nil as nowhere, List·Memᴰ·cases-cons as mem-cases}
 use Prim.Native.Nat.{ℕ, zero, suc, _*_, _^_, _≤_}
 use native.Mathlib.Omega.{arith}
 use lib.Dec.{T}
-use borrow.Author.Tests.{ne-eqb}
+use borrow.Author.Tests.{eq-eqb, ne-eqb}
 use lib.ListN.{length, replicate, length-replicate}
 use Rattle.lists.specs.Lists.{All}
 use Rattle.lists.proofs.Tests.{is-true}
-use Rattle.slots.specs.Segments.{keys, live, heightOf, render}
+use Rattle.slots.specs.Segments.{live, heightOf, render}
 use Rattle.slots.proofs.HeightLaws.{height-is}
 use Rattle.slots.proofs.Render.{live-render, render-empty}
+use Rattle.levels.specs.Tables.{tableSize}
+use Rattle.levels.proofs.Tables.{table-empty, no-keys}
 use Rattle.forecast.specs.Cells.{forecastOf}
 use Rattle.rules.specs.declared.Profile.{Profile}
 use Rattle.rules.specs.Profiles.{isProfile, profileOf}
 use Rattle.rules.specs.Shares.{shares}
+use Rattle.rules.specs.Lent.{Lent, lend, rightTable, tabled}
 use Rattle.rules.specs.Checks.{check}
 use Rattle.rules.specs.Calls.{Made, make}
 use Rattle.rules.specs.Demand2.{emptyRoom}
 use Rattle.rules.proofs.Requests.StaysGood.{Good}
-use Rattle.rules.proofs.Requests.Checked.{check-render}
-
-no-keys : (n : ℕ) → keys (replicate n []) ≡ []
-no-keys zero = refl
-no-keys (suc n) = no-keys n
+use Rattle.rules.proofs.Requests.Checked.{table-render, check-render}
+use Rattle.rules.proofs.Requests.Tabled.{check-passes}
 
 no-size : (n m : ℕ) → All (λ (x : List ℕ). length x ≤ m) (replicate n [])
 no-size zero m x i = absurd (nowhere i)
@@ -39,17 +39,41 @@ good-empty p h = record {
   placed = λ c m. absurd (nowhere m);
 }
 
-module _ (profile : ℕ) (known : T (isProfile profile)) (h : ℕ) (from : 1 ≤ h) (to : h ≤ 6) (slots : List ℕ) (e : length slots ≡ 64 * 2 ^ h) where
-  pub made-is : make profile slots ≡ record { slots = render 0 (replicate (2 ^ h) []); forecast = forecastOf []; number = 0 }
-  unfolding make
-  made-is =
-      rw (is-true (isProfile profile) known, ne-eqb (heightOf (length slots)) 0 (λ z. absurd (omega (arith, sym (ap heightOf e ∙ height-is h from to)))), e, render-empty {A = ℕ} 0 (2 ^ h)) refl
+-- a list with no key, and its table
+abbrev pub emptyLent : ℕ → Lent
+emptyLent h = tabled (render 0 (replicate (2 ^ h) []))
 
-  pub made-length : length (make profile slots .slots) ≡ 64 * 2 ^ h
-  made-length = ap (λ (m : Made). length (m .slots)) made-is ∙ ap length (render-empty {A = ℕ} 0 (2 ^ h)) ∙ length-replicate (64 * 2 ^ h) 0
+module _ (profile : ℕ) (known : T (isProfile profile)) (h : ℕ) (from : 1 ≤ h) (to : h ≤ 6) where
+  abbrev G : Good (shares (profileOf profile) h) (emptyRoom h)
+  G = good-empty (profileOf profile) h
 
-  pub made-passes : check profile (make profile slots .slots) (make profile slots .forecast) ≡ 0
-  made-passes = rw made-is (check-render profile known h from to (emptyRoom h) (good-empty (profileOf profile) h))
+  zeros : rightTable (render 0 (replicate (2 ^ h) [])) ≡ replicate (tableSize h) 0
+  zeros = table-render profile known h from to (emptyRoom h) G ∙ table-empty h
 
-  pub made-keys : live (make profile slots .slots) ≡ []
-  made-keys = rw made-is (live-render (replicate (2 ^ h) []) (good-empty (profileOf profile) h .proper .listed .live) ∙ no-keys (2 ^ h))
+  module _ (L : Lent) (e : length (L .slots) ≡ 64 * 2 ^ h) (t : length (L .table) ≡ tableSize h) where
+    height : heightOf (length (L .slots)) ≡ h
+    height = ap heightOf e ∙ height-is h from to
+
+    pub made-is : make profile L ≡ record { lent = emptyLent h; forecast = forecastOf []; number = 0 }
+    unfolding make
+    made-is =
+        rw (
+          is-true (isProfile profile) known,
+          ne-eqb (heightOf (length (L .slots))) 0 (λ z. absurd (omega (arith, height))),
+          eq-eqb (length (L .table)) (tableSize (heightOf (length (L .slots)))) (t ∙ ap tableSize (sym height)),
+        ) (λ i. record { lent = lend (rows i) (entries i); forecast = forecastOf []; number = 0 })
+      where
+        rows : replicate {A = ℕ} (length (L .slots)) 0 ≡ render 0 (replicate (2 ^ h) [])
+        rows = ap (λ (n : ℕ). replicate {A = ℕ} n 0) e ∙ sym (render-empty {A = ℕ} 0 (2 ^ h))
+
+        entries : replicate {A = ℕ} (length (L .table)) 0 ≡ rightTable (render 0 (replicate (2 ^ h) []))
+        entries = ap (λ (n : ℕ). replicate {A = ℕ} n 0) t ∙ sym zeros
+
+    pub made-length : length (make profile L .lent .slots) ≡ 64 * 2 ^ h
+    made-length = ap (λ (m : Made). length (m .lent .slots)) made-is ∙ ap length (render-empty {A = ℕ} 0 (2 ^ h)) ∙ length-replicate (64 * 2 ^ h) 0
+
+    pub made-passes : check profile (make profile L .lent) (make profile L .forecast) ≡ 0
+    made-passes = rw made-is (check-passes profile (emptyLent h) (forecastOf []) (check-render profile known h from to (emptyRoom h) G) refl)
+
+    pub made-keys : live (make profile L .lent .slots) ≡ []
+    made-keys = rw made-is (live-render (replicate (2 ^ h) []) (G .proper .listed .live) ∙ no-keys (2 ^ h))

@@ -17,17 +17,19 @@ use Rattle.rules.specs.declared.Totals.{Totals}
 use Rattle.rules.specs.Profiles.{profileOf}
 use Rattle.rules.specs.Shares.{Shares, shares}
 use Rattle.rules.specs.Placing.{Room, Outcome, outcome}
-use Rattle.rules.specs.Checks.{sharesOf, check}
+use Rattle.rules.specs.Lent.{Lent, tabled}
+use Rattle.rules.specs.Checks.{sharesOf, checkBoth, check}
 use Rattle.rules.specs.declared.Tally.{Tally}
 use Rattle.rules.specs.Runs.{recordsOf, isBad, nothing, one, tallied, Ran, stopped, work, ran, added}
 use Rattle.rules.specs.Calls.{roomOf, Worked, worked, run}
 use Rattle.rules.specs.Demand1.{inTwo, RunInTwo}
 use Rattle.rules.proofs.Running.Records.{records-drop, records-take}
-use Rattle.rules.proofs.Requests.Checked.{checked, checked-known, height-render, room-render, check-render}
+use Rattle.rules.proofs.Requests.Checked.{checked, checked-known, height-render, room-render}
+use Rattle.rules.proofs.Requests.Tabled.{room-passes}
 use Rattle.rules.proofs.Running.RequestsWorked.{work-end, work-bad, work-over, work-on}
 use Rattle.rules.proofs.Running.Runs.{run-refused, run-checked, ran-works, done, done-place}
 use Rattle.rules.proofs.Running.StopNumbers.{ran-ends}
-use Rattle.rules.proofs.Running.Singly.{good-ran}
+use Rattle.rules.proofs.Running.Singly.{passes, good-ran}
 
 -- the records of n records' bytes and more are those n and the records of what follows
 pub records-append : (n : ℕ) (bs cs : List ℕ) → length bs ≡ 11 * n → recordsOf (bs ++ cs) ≡ recordsOf bs ++ recordsOf cs
@@ -153,50 +155,56 @@ added-twice T t u = λ i. record {
 
 worked-since : (T : Totals) (r s : Ran) → worked T (since (r .tally) s) ≡ inTwo (worked T r) (worked (added T (r .tally)) s)
 worked-since T r s = λ i. record {
-  slots = render 0 (s .room .segments);
+  lent = tabled (render 0 (s .room .segments));
   forecast = forecastOf (s .room .cells);
   totals = added-twice T (r .tally) (s .tally) i;
   reply = worked T (since (r .tally) s) .reply;
 }
 
 -- a run from what a run leaves
-module _ (profile : ℕ) (slots : List ℕ) (F : Forecast) (first rest : List ℕ) (allowance : ℕ) (T : Totals) (c : check profile slots F ≡ 0) where
+module _ (profile : ℕ) (L : Lent) (F : Forecast) (first rest : List ℕ) (allowance : ℕ) (T : Totals) (c : check profile L F ≡ 0) where
+  abbrev slots : List ℕ
+  slots = L .slots
+
+  room : checkBoth profile slots F ≡ 0
+  room = room-passes profile L F c
+
   abbrev W : Ran
   W = ran (sharesOf profile slots) allowance first (roomOf slots F)
 
   lo : 1 ≤ heightOf (length slots)
-  lo = checked profile slots F c .0
+  lo = checked profile slots F room .0
 
   hi : heightOf (length slots) ≤ 6
-  hi = checked profile slots F c .1
+  hi = checked profile slots F room .1
 
-  again : (left : ℕ) → run profile (render 0 (W .room .segments)) (forecastOf (W .room .cells)) rest left (added T (W .tally))
+  again : (left : ℕ) → run profile (tabled (render 0 (W .room .segments))) (forecastOf (W .room .cells)) rest left (added T (W .tally))
       ≡ worked (added T (W .tally)) (ran (sharesOf profile slots) left rest (W .room))
   again left =
-      run-checked profile (render 0 (W .room .segments)) (forecastOf (W .room .cells)) rest left (added T (W .tally))
-      (check-render profile (checked-known profile slots F c) (heightOf (length slots)) lo hi (W .room) (good-ran profile slots F first allowance T c))
+      run-checked profile (tabled (render 0 (W .room .segments))) (forecastOf (W .room .cells)) rest left (added T (W .tally))
+      (passes profile (checked-known profile slots F room) (heightOf (length slots)) lo hi (W .room) (good-ran profile L F first allowance T c))
       ∙ ap₂ {C = Worked} (λ (h : ℕ) (X : Room). worked (added T (W .tally)) (ran (shares (profileOf profile) h) left rest X))
-      (height-render profile (checked-known profile slots F c) (heightOf (length slots)) lo hi (W .room) (good-ran profile slots F first allowance T c))
-      (room-render profile (checked-known profile slots F c) (heightOf (length slots)) lo hi (W .room) (good-ran profile slots F first allowance T c))
+      (height-render profile (checked-known profile slots F room) (heightOf (length slots)) lo hi (W .room) (good-ran profile L F first allowance T c))
+      (room-render profile (checked-known profile slots F room) (heightOf (length slots)) lo hi (W .room) (good-ran profile L F first allowance T c))
 
   both : W .stop ≡ 0 → worked T (ran (sharesOf profile slots) allowance (first ++ rest) (roomOf slots F))
-      ≡ inTwo (worked T W) (run profile (render 0 (W .room .segments)) (forecastOf (W .room .cells)) rest (allowance - W .tally .moves) (added T (W .tally)))
+      ≡ inTwo (worked T W) (run profile (tabled (render 0 (W .room .segments))) (forecastOf (W .room .cells)) rest (allowance - W .tally .moves) (added T (W .tally)))
   both z =
       ap (worked T) (ran-in-two (sharesOf profile slots) allowance first rest (roomOf slots F) z)
       ∙ worked-since T W (ran (sharesOf profile slots) (allowance - W .tally .moves) rest (W .room))
       ∙ ap (inTwo (worked T W)) (sym (again (allowance - W .tally .moves)))
 
 -- a run that ends with 0 has passed its check
-passes : (profile : ℕ) (slots : List ℕ) (F : Forecast) (bytes : List ℕ) (allowance : ℕ) (T : Totals) → run profile slots F bytes allowance T .reply .stop ≡ 0 → check profile slots F ≡ 0
-passes profile slots F bytes allowance T z = go (decLe (check profile slots F) 0)
+has-passed : (profile : ℕ) (L : Lent) (F : Forecast) (bytes : List ℕ) (allowance : ℕ) (T : Totals) → run profile L F bytes allowance T .reply .stop ≡ 0 → check profile L F ≡ 0
+has-passed profile L F bytes allowance T z = go (decLe (check profile L F) 0)
   where
-    go : Dec (check profile slots F ≤ 0) → check profile slots F ≡ 0
+    go : Dec (check profile L F ≤ 0) → check profile L F ≡ 0
     go (yes h) = omega arith
-    go (no h) = sym (ap (λ (U : Worked). U .reply .stop) (run-refused profile slots F bytes allowance T (λ e. absurd (omega arith)))) ∙ z
+    go (no h) = sym (ap (λ (U : Worked). U .reply .stop) (run-refused profile L F bytes allowance T (λ e. absurd (omega arith)))) ∙ z
 
 -- a run over first and rest, where the run over the first ends with 0
 pub run-in-two : RunInTwo
-run-in-two profile slots F first rest allowance T z =
-    let c : check profile slots F ≡ 0 = passes profile slots F first allowance T z in
-    rw (run-checked profile slots F (first ++ rest) allowance T c, run-checked profile slots F first allowance T c)
-    (both profile slots F first rest allowance T c (sym (ap (λ (U : Worked). U .reply .stop) (run-checked profile slots F first allowance T c)) ∙ z))
+run-in-two profile L F first rest allowance T z =
+    let c : check profile L F ≡ 0 = has-passed profile L F first allowance T z in
+    rw (run-checked profile L F (first ++ rest) allowance T c, run-checked profile L F first allowance T c)
+    (both profile L F first rest allowance T c (sym (ap (λ (U : Worked). U .reply .stop) (run-checked profile L F first allowance T c)) ∙ z))

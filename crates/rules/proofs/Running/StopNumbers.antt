@@ -14,6 +14,7 @@ use Rattle.rules.specs.declared.Request.the-variants.{Bad}
 use Rattle.rules.specs.declared.Totals.{Totals}
 use Rattle.rules.specs.Shares.{Shares}
 use Rattle.rules.specs.Placing.{Room, outcome}
+use Rattle.rules.specs.Lent.{tabled}
 use Rattle.rules.specs.Runs.{requestOf, recordsOf, isBad, Ran, ran}
 use Rattle.rules.specs.Calls.{worked, request}
 use Rattle.rules.specs.Rows.{Tells, stopRows}
@@ -34,7 +35,7 @@ module _ (S : Shares) (allowance : ℕ) (bytes : List ℕ) (R : Room) where
   next = record-at (done S allowance bytes R) bytes ∙ ap (λ (k : ℕ). requestOf (drop k bytes)) (sym (done-place S allowance bytes R))
 
   pub ran-tells : (profile : ℕ) (totals : Totals)
-      → ((q : Request) → request profile q (render 0 (r .room .segments)) (forecastOf (r .room .cells)) .answer .moves ≡ outcome S q (r .room) .answer .moves)
+      → ((q : Request) → request profile q (tabled (render 0 (r .room .segments))) (forecastOf (r .room .cells)) .answer .moves ≡ outcome S q (r .room) .answer .moves)
       → Tells (stopRows profile bytes allowance (worked totals r)) (r .stop)
   ran-tells profile totals single = go (ran-works S allowance bytes R .stops)
     where

@@ -5,6 +5,9 @@ use borrow.Author.Needs.{needs}
 use Rattle.shifts.proofs.cut_out.Statement.{statement}
 use Rattle.shifts.proofs.cut_out.Tie as tie
 
+add-n : tie.Need-add-n
+add-n c = search needs
+
 mul-a : tie.Need-mul-a
 mul-a c = search needs
 
@@ -26,14 +29,8 @@ part-close-gap-end c = search needs
 close-gap-requires : tie.Need-close-gap-requires
 close-gap-requires c κs = search needs
 
-sub-counts : tie.Need-sub-counts
-sub-counts c = search needs
-
-mul-counts : tie.Need-mul-counts
-mul-counts c = search needs
-
-slice-write-counts : tie.Need-slice-write-counts
-slice-write-counts c = search needs
+take-one-requires : tie.Need-take-one-requires
+take-one-requires c κs = search needs
 
 add-rebound : tie.Need-add-rebound
 add-rebound c = search needs
@@ -52,9 +49,9 @@ same-length-3 c = search needs
 
 returns : tie.Need-returns
 returns c ss ix at t =
-    let st = c .before .before .before .before .before .before .before .before .before .before .before .before .before in
+    let st = c .before .before .before .before .before .before .before .before .before .before .before .before .before .before .before .before .before in
     let a = st .args in
-    shifted-first (a .key) ss (a .list .now) (a .bounds .now) (a .counts .now) (a .place) ix at _ _ _ refl refl t (st .pre .0 .2) (c .before .before .before .before .before .before .before .before .close-gap .ensures) _ (c .before .before .rebound .ensures)
+    shifted-first (a .key) ss (a .list .now) (a .bounds .now) (a .table .now) (a .place) ix at _ _ _ refl refl t (st .pre .0 .2) (c .before .before .before .before .before .before .before .before .before .before .before .before .close-gap .ensures) _ (c .before .before .before .before .before .before .before .before .take-one .ensures) _ (c .before .before .rebound .ensures)
 
 same-length-4 : tie.Need-same-length-4
 same-length-4 c = search needs
@@ -64,14 +61,15 @@ same-length-5 c = search needs
 
 returns-2 : tie.Need-returns-2
 returns-2 c ss ix at t =
-    let st = c .before .before .before .before .before .before .before .before in
+    let st = c .before .before .before .before .before .before .before .before .before .before .before .before in
     let a = st .args in
-    shifted-out (a .key) ss (a .list .now) (a .bounds .now) (a .counts .now) (a .place) ix at _ _ _ refl refl t (st .pre .0 .2) (c .before .before .before .close-gap .ensures) (c .if1 .left)
+    shifted-out (a .key) ss (a .list .now) (a .bounds .now) (a .table .now) (a .place) ix at _ _ _ refl refl t (st .pre .0 .2) (c .before .before .before .before .before .before .before .close-gap .ensures) _ (c .before .before .before .take-one .ensures) (c .if1 .left)
 
 pub cut-out-spec : {M : Type 1} → statement M
 cut-out-spec =
     tie.close
     (tie.spec
+    add-n
     mul-a
     add-e
     mul-close-gap
@@ -79,9 +77,7 @@ cut-out-spec =
     part-close-gap-start
     part-close-gap-end
     close-gap-requires
-    sub-counts
-    mul-counts
-    slice-write-counts
+    take-one-requires
     add-rebound
     rebound-requires
     same-length

@@ -5,6 +5,9 @@ use borrow.Author.Needs.{needs}
 use Rattle.shifts.proofs.put_in.Statement.{statement}
 use Rattle.shifts.proofs.put_in.Tie as tie
 
+add-n : tie.Need-add-n
+add-n c = search needs
+
 mul-a : tie.Need-mul-a
 mul-a c = search needs
 
@@ -26,14 +29,8 @@ part-open-gap-end c = search needs
 open-gap-requires : tie.Need-open-gap-requires
 open-gap-requires c κs = search needs
 
-add-counts : tie.Need-add-counts
-add-counts c = search needs
-
-mul-counts : tie.Need-mul-counts
-mul-counts c = search needs
-
-slice-write-counts : tie.Need-slice-write-counts
-slice-write-counts c = search needs
+add-one-requires : tie.Need-add-one-requires
+add-one-requires c κs = search needs
 
 same-length : tie.Need-same-length
 same-length c = search needs
@@ -43,14 +40,15 @@ same-length-2 c = search needs
 
 returns : tie.Need-returns
 returns c ss bounds ix at t key =
-    let st = c .before .before .before .before .before .before in
+    let st = c .before .before .before .before .before .before .before .before .before .before in
     let a = st .args in
-    shifted-in (a .key) ss (a .list .now) bounds (a .counts .now) (a .place) ix at _ _ _ refl refl t key (st .pre .2) (st .pre .3) (c .before .before .open-gap .ensures)
+    shifted-in (a .key) ss (a .list .now) bounds (a .table .now) (a .place) ix at _ _ _ refl refl t key (st .pre .1) (st .pre .2) (c .before .before .before .before .before .before .open-gap .ensures) _ (c .before .before .add-one .ensures)
 
 pub put-in-spec : {M : Type 1} → statement M
 put-in-spec =
     tie.close
     (tie.spec
+    add-n
     mul-a
     add-e
     mul-open-gap
@@ -58,9 +56,7 @@ put-in-spec =
     part-open-gap-start
     part-open-gap-end
     open-gap-requires
-    add-counts
-    mul-counts
-    slice-write-counts
+    add-one-requires
     same-length
     same-length-2
     returns)

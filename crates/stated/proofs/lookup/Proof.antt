@@ -18,11 +18,11 @@ same-length c = search needs
 
 returns : tie.Need-returns
 returns c =
-    let s = c .before .before .before .before .before .before .before .before in
+    let s = c .before .before .before .before .before .before .before .before .before in
     let found = c .before .before .before .before .before .lookup in
     let told = c .before .before .before .before .lookup-told in
     let tell = c .before .before .tell-two in
-    lookup-given (s .args .profile) (s .args .list .now) (s .args .key) (s .args .reply .now) (s .pre) (found .result) (told .result) (tell .result) _ (found .ensures) (told .ensures) (tell .ensures .0) (tell .ensures .1)
+    lookup-given (s .args .profile) (s .args .list .now) (s .args .table .now) (s .args .key) (s .args .reply .now) (s .pre) (found .result) (told .result) (tell .result) _ (found .ensures) (told .ensures) (tell .ensures .0) (tell .ensures .1)
 
 pub lookup-spec : {M : Type 1} → statement M
 lookup-spec =

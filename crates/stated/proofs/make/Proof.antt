@@ -19,12 +19,15 @@ same-length c = search needs
 same-length-2 : tie.Need-same-length-2
 same-length-2 c = search needs
 
+same-length-3 : tie.Need-same-length-3
+same-length-3 c = search needs
+
 returns : tie.Need-returns
 returns c =
-    let s = c .before .before .before .before .before .before .before .before .before .before .before .before in
-    let made = c .before .before .before .before .before .before .before .before .make in
+    let s = c .before .before .before .before .before .before .before .before .before .before .before .before .before .before .before .before in
+    let made = c .before .before .before .before .before .before .before .before .before .before .make in
     let number = c .before .before .before .before .before .make-number in
-    make-given (s .args .profile) (s .args .list .now) (s .args .forecast .now) (s .pre) (made .result) (number .result) _ _ (made .ensures) (c .before .before .write-forecast .ensures) (number .ensures)
+    make-given (s .args .profile) (s .args .list .now) (s .args .table .now) (s .args .forecast .now) (s .pre) (made .result) (number .result) _ _ _ (made .ensures) (c .before .before .write-forecast .ensures) (number .ensures)
 
 pub make-spec : {M : Type 1} → statement M
 make-spec =
@@ -35,4 +38,5 @@ make-spec =
     write-forecast-requires
     same-length
     same-length-2
+    same-length-3
     returns)

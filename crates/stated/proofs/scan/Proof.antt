@@ -21,11 +21,11 @@ same-length-2 c = search needs
 
 returns : tie.Need-returns
 returns c =
-    let s = c .before .before .before .before .before .before .before .before .before .before .before .before in
+    let s = c .before .before .before .before .before .before .before .before .before .before .before .before .before in
     let scanned = c .before .before .before .before .before .before .before .scan in
     let told = c .before .before .before .before .scan-told in
     let tell = c .before .before .tell-two in
-    scan-given (s .args .profile) (s .args .list .now) (s .args .from) (s .args .reply .now) (s .pre) (s .args .output .now) (scanned .result) (told .result) (tell .result) _ _ (scanned .ensures) (told .ensures) (tell .ensures .0) (tell .ensures .1)
+    scan-given (s .args .profile) (s .args .list .now) (s .args .table .now) (s .args .from) (s .args .reply .now) (s .pre) (s .args .output .now) (scanned .result) (told .result) (tell .result) _ _ (scanned .ensures) (told .ensures) (tell .ensures .0) (tell .ensures .1)
 
 pub scan-spec : {M : Type 1} → statement M
 scan-spec =

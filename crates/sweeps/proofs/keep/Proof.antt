@@ -12,30 +12,30 @@ use Rattle.sweeps.proofs.keep.Statement.{statement}
 use Rattle.sweeps.proofs.keep.Tie as tie
 
 abbrev Inv-loop : tie.InvT-loop
-Inv-loop counts₀ first plan i₀ counts i = (i ≤ length plan) × (counts ≡ splice first i (take i plan) counts₀) × (length counts ≡ length counts₀)
+Inv-loop table₀ first plan i₀ table i = (i ≤ length plan) × (table ≡ splice first i (take i plan) table₀) × (length table ≡ length table₀)
 
 abbrev μ-loop : tie.MeasureT-loop
-μ-loop counts₀ first plan i₀ counts i = length plan - i
+μ-loop table₀ first plan i₀ table i = length plan - i
 
 loop-holds : tie.Need-loop-holds Inv-loop μ-loop
 loop-holds c =
     let a = c .args in
-    (omega arith, kept-none (a .counts .now) (a .plan .now) (a .first), refl)
+    (omega arith, kept-none (a .table .now) (a .plan .now) (a .first), refl)
 
-mul-counts : tie.Need-mul-counts Inv-loop μ-loop
-mul-counts c = omega arith
+mul-table : tie.Need-mul-table Inv-loop μ-loop
+mul-table c = omega arith
 
-shared-slice-read-counts : tie.Need-shared-slice-read-counts Inv-loop μ-loop
-shared-slice-read-counts c = omega arith
+shared-slice-read-table : tie.Need-shared-slice-read-table Inv-loop μ-loop
+shared-slice-read-table c = omega arith
 
-add-counts : tie.Need-add-counts Inv-loop μ-loop
-add-counts c = omega arith
+add-table : tie.Need-add-table Inv-loop μ-loop
+add-table c = omega arith
 
-mul-counts-2 : tie.Need-mul-counts-2 Inv-loop μ-loop
-mul-counts-2 c = omega arith
+mul-table-2 : tie.Need-mul-table-2 Inv-loop μ-loop
+mul-table-2 c = omega arith
 
-slice-write-counts : tie.Need-slice-write-counts Inv-loop μ-loop
-slice-write-counts c = omega arith
+slice-write-table : tie.Need-slice-write-table Inv-loop μ-loop
+slice-write-table c = omega arith
 
 add-i : tie.Need-add-i Inv-loop μ-loop
 add-i c = omega arith
@@ -51,8 +51,8 @@ loop-again c =
       omega arith,
       rw (add-one (L .i))
           (ap (λ (r : List ℕ). set r (a .first + L .i) (getD (a .plan .now) (L .i) 0)) (L .inv .1)
-          ∙ kept-more (a .counts .now) (a .plan .now) (a .first) (L .i) (omega arith) (omega (arith, s .pre))),
-      length-set (L .counts) (a .first + L .i) (getD (a .plan .now) (L .i) 0) ∙ L .inv .2,
+          ∙ kept-more (a .table .now) (a .plan .now) (a .first) (L .i) (omega arith) (omega (arith, s .pre))),
+      length-set (L .table) (a .first + L .i) (getD (a .plan .now) (L .i) 0) ∙ L .inv .2,
     )
 
 same-length : tie.Need-same-length Inv-loop μ-loop
@@ -63,8 +63,8 @@ returns c =
     let a = c .before .before .args in
     let L = c .before .loop in
     let e : L .i ≡ length (a .plan .now) = omega arith in
-    L .inv .1 ∙ ap (λ (k : ℕ). splice (a .first) k (take k (a .plan .now)) (a .counts .now)) e
-    ∙ ap (λ (p : List ℕ). splice (a .first) (length (a .plan .now)) p (a .counts .now)) (take-length (a .plan .now))
+    L .inv .1 ∙ ap (λ (k : ℕ). splice (a .first) k (take k (a .plan .now)) (a .table .now)) e
+    ∙ ap (λ (p : List ℕ). splice (a .first) (length (a .plan .now)) p (a .table .now)) (take-length (a .plan .now))
 
 pub keep-spec : {M : Type 1} → statement M
 keep-spec =
@@ -73,11 +73,11 @@ keep-spec =
     Inv-loop
     μ-loop
     loop-holds
-    mul-counts
-    shared-slice-read-counts
-    add-counts
-    mul-counts-2
-    slice-write-counts
+    mul-table
+    shared-slice-read-table
+    add-table
+    mul-table-2
+    slice-write-table
     add-i
     loop-less
     loop-again

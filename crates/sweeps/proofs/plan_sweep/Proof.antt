@@ -54,7 +54,7 @@ module _ (c : tie.After-front-weight) where
   abbrev ws : List ℕ
   ws = map (weight (usedCells (s p .args .forecast))) (after (record { first = first p; n = n p; key = s p .args .aim .key; grows = s p .args .aim .grows }) (segmentsOf (s p .args .list .now)))
 
-  module _ {F : Forecast} {bounds : List ℕ} (A : Acting (s p .args .list .now) F bounds (s p .args .counts .now) (s p .args .shape) (s p .args .aim))
+  module _ {F : Forecast} {bounds : List ℕ} (A : Acting (s p .args .list .now) F bounds (s p .args .table .now) (s p .args .shape) (s p .args .aim))
       (N : Noted (s p .args .list .now) F (s p .args .shape) (s p .args .aim) (s p .args .forecast)) where
     marked : Marked ws at weights
     marked = c .before .before .before .mark .ensures .1 (segmentsOf (s p .args .list .now)) (marking A (s p .pre .1 .0) (p .power .ensures .0) refl N)
@@ -65,7 +65,7 @@ module _ (c : tie.After-whole) where
   f = c .before .before
 
   module _ {F : Forecast} {bounds : List ℕ}
-      (A : Acting (s (p f) .args .list .now) F bounds (s (p f) .args .counts .now) (s (p f) .args .shape) (s (p f) .args .aim))
+      (A : Acting (s (p f) .args .list .now) F bounds (s (p f) .args .table .now) (s (p f) .args .shape) (s (p f) .args .aim))
       (N : Noted (s (p f) .args .list .now) F (s (p f) .args .shape) (s (p f) .args .aim) (s (p f) .args .forecast)) where
     whole : PartOf (ws f) (at f) (weights f) (c .whole .result)
     whole =

@@ -1,4 +1,4 @@
--- `sweep` deals a window out by its plan, and writes the window's counts and bounds.
+-- `sweep` deals a window out by its plan, and writes the window's counts, the sums over them, and its bounds.
 use mathlib.Core.Path.{_≡_, refl, sym}
 use Prim.Native.Nat.{ℕ, _+_, _-_, _*_, _/_, _≤_, _<_}
 use native.Mathlib.Omega.{arith}
@@ -7,8 +7,9 @@ use lib.Seq.{length-take-le}
 use borrow.Rule.Slice.PartMut.{putMid, same-len-mid}
 use borrow.Author.Needs.{needs}
 use Rattle.slots.specs.Segments.{segmentsOf}
+use Rattle.seats.proofs.Indexes.{few-segments, count-small}
 use Rattle.sweeps.specs.Acts.{Acting}
-use Rattle.sweeps.proofs.SweptLeft.{level-low, counts-few, at-few, from, to, ends, slots-lent, counts-lent, planted, swept-left}
+use Rattle.sweeps.proofs.SweptLeft.{level-low, at-few, from, to, ends, slots-lent, counts-lent, fits, planted, swept-left}
 use Rattle.sweeps.proofs.sweep.Statement.{statement}
 use Rattle.sweeps.proofs.sweep.Tie as tie
 
@@ -20,7 +21,7 @@ module _ (c : tie.After-power) where
   abbrev first : ℕ
   first = c .before .before .before .before .before .args .aim .segment / c .power .result * c .power .result
 
-  abbrev given : Acting (s .args .list .now) (s .pre .0 .0) (s .args .bounds .now) (s .args .counts .now) (s .pre .0 .1) (s .args .aim)
+  abbrev given : Acting (s .args .list .now) (s .pre .0 .0) (s .args .bounds .now) (s .args .table .now) (s .pre .0 .1) (s .args .aim)
   given = s .pre .0 .2
 
   abbrev swept : 1 ≤ s .args .aim .level
@@ -39,12 +40,12 @@ module _ (c : tie.After-power) where
   below-end j h = omega (arith, last-in, ends-in)
 
   ending : first + c .power .result ≤ 64
-  ending = omega (arith, last-in, given .index .few)
+  ending = omega (arith, last-in, few-segments (given .index))
 
   within : 64 * first + 64 * c .power .result ≤ length (s .args .list .now)
   within = slots-lent given swept (c .power .result) first (c .power .ensures .0) refl
 
-  within-counts : first + c .power .result ≤ length (s .args .counts .now)
+  within-counts : first + c .power .result ≤ length (s .args .table .now)
   within-counts = counts-lent given swept (c .power .result) first (c .power .ensures .0) refl
 
   plan-few : length (take (c .power .result) (s .args .plan .now)) ≡ c .power .result
@@ -73,8 +74,8 @@ keys-in-requires c κs =
     let k = c .before in
     let a = s k .args in
     let gap : a .aim .segment - first k ≤ 64 = omega (arith, ending k, begins-in k, ends-in k) in
-    let low : a .aim .segment ≤ length (a .counts .now) = omega (arith, within-counts k, ends-in k) in
-    (begins-in k, gap, low, λ j h. counts-few (given k) (swept k) j (below-end k j h))
+    let low : a .aim .segment ≤ length (a .table .now) = omega (arith, within-counts k, ends-in k) in
+    (begins-in k, gap, low, λ j h. count-small (given k .index) j (below-end k j h))
 
 add-p : tie.Need-add-p
 add-p c =
@@ -118,14 +119,14 @@ sow-requires c κs =
     planted (given k) (swept k) (k .power .result) (first k) (k .power .ensures .0) refl (s k .args .plan .now) (s k .pre .0 .3)
     (c .before .before .before .before .before .keys-in .result) (c .before .before .before .before .before .keys-in .ensures .1) (k .power .ensures .1)
 
-slice-aggregate-keep : tie.Need-slice-aggregate-keep
-slice-aggregate-keep c = sym (plan-few (c .before .before .before .before .before .before .before .before .before .before .before .before))
+slice-aggregate-recount : tie.Need-slice-aggregate-recount
+slice-aggregate-recount c = sym (plan-few (c .before .before .before .before .before .before .before .before .before .before .before .before))
 
-keep-requires : tie.Need-keep-requires
-keep-requires c κs =
+recount-requires : tie.Need-recount-requires
+recount-requires c κs =
     let k = c .before .before .before .before .before .before .before .before .before .before .before .before in
-    let q : first k + length (take (k .power .result) (s k .args .plan .now)) ≤ length (s k .args .counts .now) = omega (arith, plan-few k, within-counts k) in
-    q
+    let l : length (take (k .power .result) (s k .args .plan .now)) ≡ k .power .result = plan-few k in
+    ((_, _, _, given k .index, omega (arith, l, last-in k)), omega (arith, l, k .power .ensures), fits (given k) (swept k) (k .power .result) (first k) (k .power .ensures .0) refl (s k .args .plan .now) (s k .pre .0 .3))
 
 add-rebound : tie.Need-add-rebound
 add-rebound c = omega (arith, ending (c .before .before .before .before .before .before .before .before .before .before .before .before .before .before .before .before .before))
@@ -151,7 +152,7 @@ returns : tie.Need-returns
 returns c F shape A P =
     let k = c .before .before .before .before .before .before .before .before .before .before .before .before .before .before .before .before .before .before .before .before in
     swept-left A (swept k) (k .power .result) (first k) (k .power .ensures .0) refl (s k .args .plan .now) P (c .before .before .before .before .before .before .before .before .before .before .before .before .sow .last .0) (c .before .before .before .before .before .before .before .before .before .before .before .before .sow .ensures)
-    (c .before .before .rebound .last .1 .0) (c .before .before .before .before .before .before .before .keep .last .0) (c .before .before .before .before .before .before .before .keep .ensures) (c .before .before .rebound .ensures)
+    (c .before .before .rebound .last .1 .0) (c .before .before .before .before .before .before .before .recount .last .0) (c .before .before .before .before .before .before .before .recount .ensures) (c .before .before .rebound .ensures)
 
 pub sweep-spec : {M : Type 1} → statement M
 sweep-spec =
@@ -176,8 +177,8 @@ sweep-spec =
     part-sow-end-2
     slice-aggregate-sow
     sow-requires
-    slice-aggregate-keep
-    keep-requires
+    slice-aggregate-recount
+    recount-requires
     add-rebound
     rebound-requires
     same-length

@@ -8,6 +8,9 @@ use Rattle.trials.proofs.ask_show.Tie as tie
 returns : tie.Need-returns
 returns c = search needs
 
+returns-2 : tie.Need-returns-2
+returns-2 c = search needs
+
 slice-aggregate-show-counts : tie.Need-slice-aggregate-show-counts
 slice-aggregate-show-counts c = sym (length-take-le _ _ (search needs))
 
@@ -29,14 +32,21 @@ sum-of-requires c κs = search needs
 line-requires : tie.Need-line-requires
 line-requires c κs = search needs
 
-returns-2 : tie.Need-returns-2
-returns-2 c = search needs
+slice-aggregate-show-table : tie.Need-slice-aggregate-show-table
+slice-aggregate-show-table c = sym (length-take-le _ _ (search needs))
+
+show-table-requires : tie.Need-show-table-requires
+show-table-requires c κs = search needs
+
+returns-3 : tie.Need-returns-3
+returns-3 c = search needs
 
 pub ask-show-spec : {M : Type 1} → statement M
 ask-show-spec =
     tie.close
     (tie.spec
     returns
+    returns-2
     slice-aggregate-show-counts
     show-counts-requires
     show-cells-requires
@@ -44,4 +54,6 @@ ask-show-spec =
     slice-aggregate-sum-of
     sum-of-requires
     line-requires
-    returns-2)
+    slice-aggregate-show-table
+    show-table-requires
+    returns-3)

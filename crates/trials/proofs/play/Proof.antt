@@ -1,4 +1,4 @@
--- `play` is safe and ends. The loop's invariant: the commands worked are commands, and the slots keep their number.
+-- `play` is safe and ends. The loop's invariant: the commands worked are commands, and slots and table keep their lengths.
 use Prim.Native.Nat.{_-_, _≤_}
 use mathlib.Core.Path.{_≡_}
 use lib.ListN.{length}
@@ -7,10 +7,10 @@ use Rattle.trials.proofs.play.Statement.{statement}
 use Rattle.trials.proofs.play.Tie as tie
 
 abbrev Inv-loop : tie.InvT-loop
-Inv-loop input slots₀ room₀ n i₀ slots room i = (i ≤ n) × (length slots ≡ length slots₀)
+Inv-loop input slots₀ table₀ room₀ n i₀ slots table room i = (i ≤ n) × ((length slots ≡ length slots₀) × (length table ≡ length table₀))
 
 abbrev μ-loop : tie.MeasureT-loop
-μ-loop input slots₀ room₀ n i₀ slots room i = n - i
+μ-loop input slots₀ table₀ room₀ n i₀ slots table room i = n - i
 
 empty-requires : tie.Need-empty-requires Inv-loop μ-loop
 empty-requires c κs = search needs
@@ -39,6 +39,9 @@ loop-again c = search needs
 same-length : tie.Need-same-length Inv-loop μ-loop
 same-length c = search needs
 
+same-length-2 : tie.Need-same-length-2 Inv-loop μ-loop
+same-length-2 c = search needs
+
 returns : tie.Need-returns Inv-loop μ-loop
 returns c = search needs
 
@@ -57,4 +60,5 @@ play-spec =
     loop-less
     loop-again
     same-length
+    same-length-2
     returns)

@@ -11,14 +11,20 @@ returns c = search needs
 returns-2 : tie.Need-returns-2
 returns-2 c = search needs
 
+returns-3 : tie.Need-returns-3
+returns-3 c = search needs
+
 slice-aggregate-scan : tie.Need-slice-aggregate-scan
 slice-aggregate-scan c = sym (length-take-le _ _ (search needs))
+
+slice-aggregate-scan-2 : tie.Need-slice-aggregate-scan-2
+slice-aggregate-scan-2 c = sym (length-take-le _ _ (search needs))
 
 slice-relend-prefix-scan : tie.Need-slice-relend-prefix-scan
 slice-relend-prefix-scan c = search needs
 
-slice-aggregate-scan-2 : tie.Need-slice-aggregate-scan-2
-slice-aggregate-scan-2 c = sym (length-take-le _ _ (search needs))
+slice-aggregate-scan-3 : tie.Need-slice-aggregate-scan-3
+slice-aggregate-scan-3 c = sym (length-take-le _ _ (search needs))
 
 scan-requires : tie.Need-scan-requires
 scan-requires c κs = search needs
@@ -44,8 +50,8 @@ line-requires c κs = search needs
 same-length : tie.Need-same-length
 same-length c = search needs
 
-returns-3 : tie.Need-returns-3
-returns-3 c = search needs
+returns-4 : tie.Need-returns-4
+returns-4 c = search needs
 
 pub scan-into-spec : {M : Type 1} → statement M
 scan-into-spec =
@@ -53,9 +59,11 @@ scan-into-spec =
     (tie.spec
     returns
     returns-2
+    returns-3
     slice-aggregate-scan
-    slice-relend-prefix-scan
     slice-aggregate-scan-2
+    slice-relend-prefix-scan
+    slice-aggregate-scan-3
     scan-requires
     slice-aggregate-told
     scan-told-requires
@@ -64,4 +72,4 @@ scan-into-spec =
     sum-of-requires
     line-requires
     same-length
-    returns-3)
+    returns-4)

@@ -46,14 +46,11 @@ returns-4 c F s =
     let l = f .before .before in
     in-shifted s (l .before .if1 .left) (l .spot .ensures) (f .if2 .left) (m .if3 .left) (c .if4 .taken)
 
-add-climb : tie.Need-add-climb
-add-climb c = omega (arith, c .before .before .before .before .before .before .spot .ensures .few)
-
 climb-requires : tie.Need-climb-requires
 climb-requires c κs =
     let l = c .before .before .before .before .before .before in
     let b = l .before .before .before .before .before in
-    climb-asks (b .pre) (place-in (b .pre .stands) (l .spot .ensures .place)) (omega (arith, l .spot .ensures .few))
+    climb-asks (b .pre) (place-in (b .pre .stands) (l .spot .ensures .place)) (omega arith) (omega arith)
 
 returns-5 : tie.Need-returns-5
 returns-5 c F s =
@@ -77,6 +74,5 @@ aim-in-spec =
     sub-t19
     add-t20
     returns-4
-    add-climb
     climb-requires
     returns-5)

@@ -5,7 +5,7 @@ use borrow.Author.Needs.{needs}
 use borrow.Author.Tests.{not-true, not-false}
 use Prim.Native.Nat.{_<_}
 use Rattle.aims.proofs.Standing.{climb-asks}
-use Rattle.aims.proofs.Places.{place-in}
+use Rattle.aims.proofs.Places.{place-in, place-held}
 use Rattle.aims.proofs.AimedOut.{out-zero, out-absent, out-under, out-shifted, out-keeps, out-unswept, out-swept}
 use Rattle.aims.proofs.aiming.aim_out.Statement.{statement}
 use Rattle.aims.proofs.aiming.aim_out.Tie as tie
@@ -34,14 +34,11 @@ under c =
     let b = l .before .before .before .before .before in
     out-under (b .pre .stands) (l .before .if1 .left) (l .spot .ensures) (not-false _ (c .if2 .left))
 
-sub-climb : tie.Need-sub-climb
-sub-climb c = omega (arith, under (c .before .before))
-
 climb-requires : tie.Need-climb-requires
 climb-requires c κs =
     let l = c .before .before .before .before .before in
     let b = l .before .before .before .before .before in
-    climb-asks (b .pre) (place-in (b .pre .stands) (l .spot .ensures .place)) (omega (arith, l .spot .ensures .few))
+    climb-asks (b .pre) (place-in (b .pre .stands) (l .spot .ensures .place)) (omega (arith, place-held (b .pre .stands) (l .spot .ensures .place), under (c .before .before))) (omega arith)
 
 returns-3 : tie.Need-returns-3
 returns-3 c F s =
@@ -51,11 +48,11 @@ returns-3 c F s =
     let b = l .before .before .before .before .before in
     out-swept s (l .before .if1 .left) (l .spot .ensures) (not-false _ (f .if2 .left)) (omega (arith, m .before .if3 .taken)) (b .pre .index) (m .climb .ensures .1) (omega (arith, c .if4 .taken))
 
+sub-t19 : tie.Need-sub-t19
+sub-t19 c = omega (arith, under (c .before .before))
+
 sub-t20 : tie.Need-sub-t20
 sub-t20 c = omega (arith, under (c .before .before))
-
-sub-t21 : tie.Need-sub-t21
-sub-t21 c = omega (arith, under (c .before .before))
 
 -- no window, for either reason
 returns-4 : tie.Need-returns-4
@@ -78,9 +75,8 @@ aim-out-spec =
     spot-requires
     refuse-requires-2
     returns-2
-    sub-climb
     climb-requires
     returns-3
+    sub-t19
     sub-t20
-    sub-t21
     returns-4)

@@ -1,137 +1,136 @@
 -- `climb` finds the smallest window within limits.
--- The loop's invariant: the window of level `level`, of `half` segments, has `keys` keys, and no window tried so far is within limits.
-use mathlib.Core.Path.{_≡_, sym, _∙_}
-use mathlib.Core.List.{List}
-use Prim.Native.Nat.{ℕ, _+_, _-_, _*_, _^_, _≤_}
+-- The loop's invariant: e is the entry of the window of level `level`, of `size` segments, and no window tried so far is within limits.
+use mathlib.Core.Path.{_≡_, refl, sym, ap, ap₂, _∙_}
+use mathlib.Core.List.{List, []}
+use Prim.Native.Nat.{ℕ, _+_, _-_, _*_, _/_, _^_, _≤_, _<_}
 use native.Mathlib.Nat.{pow-le-pow-right, pow-zero, pow-succ'}
 use native.Mathlib.Numerals.{add-one}
 use native.Mathlib.Omega.{arith}
-use lib.ListN.{length, set}
+use lib.ListN.{length, getD, set}
 use Rattle.slots.specs.Segments.{Segments}
 use Rattle.slots.specs.Windows.{count}
 use Rattle.slots.proofs.Windows.{pow-pos}
-use Rattle.slots.proofs.Counts.{count-zero}
-use Rattle.slots.specs.Shown.{CountsOf}
-use Rattle.aims.specs.Climbs.{otherHalf}
-use Rattle.aims.proofs.Halves.{other-fits}
+use Rattle.levels.specs.Tables.{tableOf}
+use Rattle.levels.specs.Levels.{entryOf}
+use Rattle.levels.proofs.Tables.{length-table}
 use Rattle.shares.specs.Rows.{sharesAt}
-use Rattle.aims.proofs.Grown.{keys-next, Tried, tried-more, climbed-here, climbed-none}
+use Rattle.aims.proofs.Grown.{way-in, way-few, way-least, way-count, Tried, tried-more, climbed-here, climbed-none}
 use Rattle.aims.proofs.climbing.climb.Statement.{statement}
 use Rattle.aims.proofs.climbing.climb.Tie as tie
 
 abbrev Inv-loop : tie.InvT-loop
-Inv-loop counts shape seg held h keys₀ level₀ half₀ keys level half =
-    (level ≤ shape .height) × (half ≡ 2 ^ level) × (keys ≤ 64 * half + 1)
-    × ((ss : Segments) (new : List ℕ) → length ss ≡ 2 ^ shape .height → CountsOf ss counts → length new ≡ held → (keys ≡ count level seg (set ss seg new)) × Tried (sharesAt shape) seg (set ss seg new) level)
+Inv-loop table shape seg grown gone h n e₀ level₀ size₀ e level size =
+    (level ≤ shape .height) × (size ≡ 2 ^ level) × (n ≡ 2 ^ shape .height) × (e ≡ entryOf (2 ^ shape .height) seg level)
+    × ((ss : Segments) (new : List ℕ) → length ss ≡ 2 ^ shape .height → table ≡ tableOf (shape .height) ss → length new + gone ≡ length (getD ss seg []) + grown → Tried (sharesAt shape) seg (set ss seg new) level)
 
 abbrev μ-loop : tie.MeasureT-loop
-μ-loop counts shape seg held h keys₀ level₀ half₀ keys level half = shape .height - level
+μ-loop table shape seg grown gone h n e₀ level₀ size₀ e level size = shape .height - level
 
--- a list has at most 64 segments
-few : (s : tie.Start Inv-loop μ-loop) → 2 ^ s .args .shape .height ≤ 64
-few s = pow-le-pow-right {n = 2} (omega arith) {i = s .args .shape .height} {j = 6} (omega arith)
-
--- sizes: the window so far and the other half fit the list
+-- the next window: its size, and its entry
 module _ (c : tie.Else1 Inv-loop μ-loop) where
   abbrev start : tie.Start Inv-loop μ-loop
   start = c .before .before .before
 
-  small : c .before .loop .half ≤ 32
+  abbrev h : ℕ
+  h = start .args .shape .height
+
+  abbrev table : List ℕ
+  table = start .args .table .now
+
+  abbrev next : ℕ
+  next = c .before .loop .level + 1
+
+  small : c .before .loop .size ≤ 32
   small = rw (c .before .loop .inv .1) (pow-le-pow-right {n = 2} (omega arith) {i = c .before .loop .level} {j = 5} (omega arith))
 
-  some : 1 ≤ c .before .loop .half
-  some = rw (c .before .loop .inv .1) (pow-pos (c .before .loop .level))
-
-  inside : otherHalf (c .before .loop .half) (start .args .seg) + c .before .loop .half ≤ 2 ^ start .args .shape .height
-  inside = other-fits (c .before .loop .level) (start .args .shape .height) (start .args .seg) (c .before .loop .half) (c .before .loop .inv .1) (omega arith) (omega arith)
-
-  -- the next window's size
-  next-size : 2 * c .before .loop .half ≡ 2 ^ (c .before .loop .level + 1)
+  next-size : 2 * c .before .loop .size ≡ 2 ^ next
   next-size = rw (c .before .loop .inv .1, add-one) (sym (pow-succ' 2 (c .before .loop .level)))
+
+  up : length table / 2 + 1 + c .before .loop .e / 2 ≡ entryOf (2 ^ h) (start .args .seg) next
+  up = rw (add-one (c .before .loop .level)) (ap₂ {C = ℕ} (λ (m i : ℕ). m + i / 2) (c .before .loop .inv .2) (c .before .loop .inv .3))
+
+  inside : entryOf (2 ^ h) (start .args .seg) next < length table
+  inside = way-in (start .pre .4) (start .pre .2) next (omega arith)
+
+  few : getD table (entryOf (2 ^ h) (start .args .seg) next) 0 ≤ 4096
+  few = way-few (start .pre .4) (start .pre .2) next (omega arith)
+
+  least : start .args .gone ≤ getD table (entryOf (2 ^ h) (start .args .seg) next) 0
+  least = way-least (start .pre .4) (start .pre .2) next (omega arith)
+
+  -- what is read there, with the request done
+  many : (ss : Segments) (new : List ℕ) → length ss ≡ 2 ^ h → table ≡ tableOf h ss → length new + start .args .gone ≡ length (getD ss (start .args .seg) []) + start .args .grown
+      → getD table (length table / 2 + 1 + c .before .loop .e / 2) 0 + start .args .grown - start .args .gone ≡ count next (start .args .seg) (set ss (start .args .seg) new)
+  many ss new e t g = rw up (way-count (start .pre .4) (start .pre .2) next (omega arith) ss new (start .args .grown) e t g)
+
+add-n : tie.Need-add-n Inv-loop μ-loop
+add-n c = omega arith
 
 loop-holds : tie.Need-loop-holds Inv-loop μ-loop
 loop-holds c =
-    let a = c .before .args in (
+    let s = c .before in
+    let x = s .pre .4 in (
       omega arith,
       sym (pow-zero 2),
-      omega arith,
-      λ ss new e f g. (sym (count-zero ss (a .seg) new (omega arith) ∙ g), λ j p q. absurd (omega arith)),
+      omega (arith, ap length (x .right), length-table (s .args .shape .height) (x .segments) (x .size), pow-pos (s .args .shape .height)),
+      refl,
+      λ ss new e t g j p q. absurd (omega arith),
     )
-
-sibling-requires : tie.Need-sibling-requires Inv-loop μ-loop
-sibling-requires c κs = (some c, small c, omega (arith, few (start c)))
-
--- the other half stands in the list
-within : (c : tie.After-sibling Inv-loop μ-loop) → c .sibling .result + c .before .before .loop .half ≤ 2 ^ start (c .before) .args .shape .height
-within c = rw (c .sibling .ensures) (inside (c .before))
-
-add-keys-in : tie.Need-add-keys-in Inv-loop μ-loop
-add-keys-in c = omega (arith, within c, few (start (c .before)))
-
-keys-in-requires : tie.Need-keys-in-requires Inv-loop μ-loop
-keys-in-requires c κs = (omega arith, omega (arith, small (c .before)), omega (arith, within c), λ k h. start (c .before) .pre .6 k (omega (arith, within c)))
-
-add-keys : tie.Need-add-keys Inv-loop μ-loop
-add-keys c = omega (arith, small (c .before .before))
-
-mul-half : tie.Need-mul-half Inv-loop μ-loop
-mul-half c = omega (arith, small (c .before .before))
 
 add-level : tie.Need-add-level Inv-loop μ-loop
 add-level c = omega arith
 
+mul-size : tie.Need-mul-size Inv-loop μ-loop
+mul-size c = omega (arith, small c)
+
+add-e : tie.Need-add-e Inv-loop μ-loop
+add-e c = omega (arith, up c, inside c)
+
+mul-keys : tie.Need-mul-keys Inv-loop μ-loop
+mul-keys c = omega (arith, up c, inside c)
+
+shared-slice-read-keys : tie.Need-shared-slice-read-keys Inv-loop μ-loop
+shared-slice-read-keys c = omega (arith, up (c .before), inside (c .before))
+
+add-keys : tie.Need-add-keys Inv-loop μ-loop
+add-keys c = rw (up (c .before)) (omega (arith, few (c .before)))
+
+sub-keys : tie.Need-sub-keys Inv-loop μ-loop
+sub-keys c = rw (up (c .before)) (omega (arith, least (c .before)))
+
 fits-requires : tie.Need-fits-requires Inv-loop μ-loop
 fits-requires c κs =
-    let p = c .before .before in
-    (omega arith, omega arith, omega arith, next-size p, omega (arith, small p), start p .pre .4)
-
--- the next window's keys
-module _ (c : tie.After-keys-in Inv-loop μ-loop) where
-  abbrev here : tie.Else1 Inv-loop μ-loop
-  here = c .before .before
-
-  next : (ss : Segments) (new : List ℕ) → length ss ≡ 2 ^ start here .args .shape .height → CountsOf ss (start here .args .counts .now) → length new ≡ start here .args .held
-      → here .before .loop .keys + c .keys-in .result ≡ count (here .before .loop .level + 1) (start here .args .seg) (set ss (start here .args .seg) new)
-  next ss new e f g =
-      let a = start here .args in
-      let L = here .before .loop in
-      let o = c .before .sibling in
-      keys-next (L .level) (a .seg) (L .half) (o .result) ss new (a .counts .now) (L .keys) (c .keys-in .result) (L .inv .1) (o .ensures) f
-      (omega (arith, within (c .before))) (omega (arith, within (c .before))) (c .keys-in .ensures .1) (L .inv .3 ss new e f g .0)
+    let p = start (c .before) .pre in
+    (p .0, p .1, omega arith, next-size (c .before), omega (arith, small (c .before)), p .3)
 
 loop-less : tie.Need-loop-less Inv-loop μ-loop
 loop-less c = omega arith
 
 loop-again : tie.Need-loop-again Inv-loop μ-loop
 loop-again c =
-    let n = c .before .before in
-    let p = n .before .before in
-    let a = start p .args in
-    let L = p .before .loop in (
+    let n = c .before .before .before in
+    let a = start n .args in
+    let L = n .before .loop in (
       omega arith,
-      next-size p,
-      omega arith,
-      λ ss new e f g. (
-        next n ss new e f g,
-        tried-more (sharesAt (a .shape)) (a .seg) (set ss (a .seg) new) (L .level) (L .keys + n .keys-in .result) (next n ss new e f g) (sym (c .if2 .left) ∙ c .before .fits2 .ensures) (L .inv .3 ss new e f g .1),
-      ),
+      next-size n,
+      L .inv .2,
+      up n,
+      λ ss new e t g. tried-more (sharesAt (a .shape)) (a .seg) (set ss (a .seg) new) (L .level) _ (many n ss new e t g) (sym (c .if2 .left) ∙ c .before .fits2 .ensures) (L .inv .4 ss new e t g),
     )
 
 returns : tie.Need-returns Inv-loop μ-loop
 returns c =
     let a = c .before .before .before .args in
     let L = c .before .loop in
-    ((omega arith, omega arith), λ ss new e f g. climbed-none (sharesAt (a .shape)) (a .seg) (set ss (a .seg) new) (λ j p q. L .inv .3 ss new e f g .1 j p (omega arith)))
+    ((omega arith, omega arith), λ ss new e t g. climbed-none (sharesAt (a .shape)) (a .seg) (set ss (a .seg) new) (λ j p q. L .inv .4 ss new e t g j p (omega arith)))
 
 returns-2 : tie.Need-returns-2 Inv-loop μ-loop
 returns-2 c =
-    let n = c .before .before in
-    let p = n .before .before in
-    let a = start p .args in
-    let L = p .before .loop in (
-      (omega arith, omega (arith, small p)),
-      λ ss new e f g. climbed-here (sharesAt (a .shape)) (a .seg) (set ss (a .seg) new) (L .level) (L .keys + n .keys-in .result) (omega arith)
-          (next n ss new e f g) (sym (c .if2 .taken) ∙ c .before .fits2 .ensures) (L .inv .3 ss new e f g .1),
+    let n = c .before .before .before in
+    let a = start n .args in
+    let L = n .before .loop in (
+      (omega arith, rw (up n) (omega (arith, few n))),
+      λ ss new e t g. climbed-here (sharesAt (a .shape)) (a .seg) (set ss (a .seg) new) (L .level) _ (omega arith) (many n ss new e t g) (sym (c .if2 .taken) ∙ c .before .fits2 .ensures) (L .inv .4 ss new e t g),
     )
 
 pub climb-spec : {M : Type 1} → statement M
@@ -140,13 +139,15 @@ climb-spec =
     (tie.spec
     Inv-loop
     μ-loop
+    add-n
     loop-holds
-    sibling-requires
-    add-keys-in
-    keys-in-requires
-    add-keys
-    mul-half
     add-level
+    mul-size
+    add-e
+    mul-keys
+    shared-slice-read-keys
+    add-keys
+    sub-keys
     fits-requires
     loop-less
     loop-again

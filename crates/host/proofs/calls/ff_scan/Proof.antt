@@ -6,8 +6,8 @@ use Rattle.host.proofs.calls.ff_scan.Tie as tie
 
 returns : tie.Need-returns
 returns c =
-    let a = c .before .before .before .before .args in
-    scan-misfit (a .profile) (a .list .now) (a .from) (a .reply .now) (c .if1 .taken) (a .output .now)
+    let a = c .before .before .before .before .before .args in
+    scan-misfit (a .profile) (a .list .now) (a .table .now) (a .from) (a .reply .now) (c .if1 .taken) (a .output .now)
 
 scan-requires : tie.Need-scan-requires
 scan-requires c κs = search needs

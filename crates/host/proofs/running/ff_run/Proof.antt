@@ -10,13 +10,13 @@ run-misfits-requires c κs = search needs
 
 returns : tie.Need-returns
 returns c =
-    let a = c .before .before .before .before .before .before .before .args in
-    run-misfit (a .profile) (a .list .now) (a .forecast .now) (a .requests .now) (a .allowance) (a .totals .now) (a .reply .now) _ (c .before .run-misfits .ensures) (c .if1 .taken)
+    let a = c .before .before .before .before .before .before .before .before .args in
+    run-misfit (a .profile) (a .list .now) (a .table .now) (a .forecast .now) (a .requests .now) (a .allowance) (a .totals .now) (a .reply .now) _ (c .before .run-misfits .ensures) (c .if1 .taken)
 
 run-requires : tie.Need-run-requires
 run-requires c κs =
-    let a = c .before .before .before .before .before .before .before .before .before .before .before .args in
-    all-fit (a .forecast .now) (a .totals .now) (a .reply .now) _ (c .before .before .before .before .before .run-misfits .ensures) (c .before .before .before .before .if1 .left)
+    let a = c .before .before .before .before .before .before .before .before .before .before .before .before .before .args in
+    all-fit (a .forecast .now) (a .totals .now) (a .reply .now) _ (c .before .before .before .before .before .before .run-misfits .ensures) (c .before .before .before .before .before .if1 .left)
 
 same-length : tie.Need-same-length
 same-length c = search needs
@@ -29,6 +29,9 @@ same-length-3 c = search needs
 
 same-length-4 : tie.Need-same-length-4
 same-length-4 c = search needs
+
+same-length-5 : tie.Need-same-length-5
+same-length-5 c = search needs
 
 returns-2 : tie.Need-returns-2
 returns-2 c = search needs
@@ -44,4 +47,5 @@ ff-run-spec =
     same-length-2
     same-length-3
     same-length-4
+    same-length-5
     returns-2)

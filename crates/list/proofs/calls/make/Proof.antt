@@ -1,84 +1,127 @@
--- `make` empties a list of any height, and refuses an unknown profile and other slots.
+-- `make` empties a list of any height and its table, and refuses an unknown profile, other slots and a table of another length.
 use mathlib.Core.Path.{_≡_, sym, ap, _∙_}
 use mathlib.Core.Bool.{true}
-use mathlib.Core.Logic.{_≢_}
-use mathlib.Core.List.{List, [], append-nil}
-use Prim.Native.Nat.{ℕ}
-use native.Mathlib.Nat.{sub-zero}
+use mathlib.Core.Logic.{_≢_, inl, inr}
+use mathlib.Core.List.{[]}
+use Prim.Native.Nat.{ℕ, _-_, _/_, _≤_}
+use native.Mathlib.Nat.{pow-succ'}
 use native.Mathlib.Omega.{arith}
-use lib.ListN.{length, replicate}
-use lib.Seq.{drop-length}
-use Rattle.slots.specs.Segments.{heightOf}
-use Rattle.moves.specs.Moves.{cleared}
-use Rattle.forecast.specs.declared.Forecast.{Forecast}
-use Rattle.forecast.specs.Cells.{forecastOf}
-use Rattle.forecast.specs.Tidy.{Became}
-use Rattle.forecast.proofs.Became.{became-is}
-use Rattle.rules.specs.Profiles.{isProfile}
-use Rattle.rules.specs.Calls.{Made, make}
-use Rattle.answers.specs.declared.MakeAnswer.{MakeAnswer}
-use Rattle.answers.specs.Answers.{makeNumber}
-use Rattle.answers.specs.Admits.{MakeAdmits}
-use Rattle.answers.proofs.Replies.{make-unknown, make-refused, make-done}
 use borrow.Author.Needs.{needs}
 use borrow.Author.Tests.{not-true, not-false}
+use lib.ListN.{length}
+use Rattle.slots.specs.Segments.{heightOf}
+use Rattle.slots.proofs.HeightLaws.{height-cases}
+use Rattle.slots.proofs.Windows.{pow-pos}
+use Rattle.levels.specs.Tables.{tableSize}
+use Rattle.tables.proofs.Cleared.{all-cleared}
+use Rattle.forecast.specs.Cells.{forecastOf}
+use Rattle.rules.specs.Profiles.{isProfile}
+use Rattle.rules.specs.Lent.{Lent, lend}
+use Rattle.rules.specs.Calls.{Made, make}
+use Rattle.answers.specs.declared.MakeAnswer.{MakeAnswer}
+use Rattle.answers.specs.declared.MakeReply.{MakeReply}
+use Rattle.answers.specs.Answers.{makeNumber}
+use Rattle.answers.specs.Admits.{MakeAdmits}
+use Rattle.answers.proofs.Replies.{make-unknown, make-refused, make-wrong-table, make-done}
 use Rattle.list.proofs.calls.make.Statement.{statement}
 use Rattle.list.proofs.calls.make.Tie as tie
 
--- every slot cleared
-all-cleared : (l : List ℕ) → cleared 0 (length l) 0 l ≡ replicate (length l) 0
-all-cleared l = rw (sub-zero, drop-length) (append-nil (replicate (length l) 0))
+-- what is told, given back and left is what the rules make of it
+admits : (profile : ℕ) (L : Lent) (a : MakeAnswer) (r : MakeReply) (left : Lent) → r ≡ record { forecast = forecastOf []; answer = a }
+    → make profile L ≡ record { lent = left; forecast = forecastOf []; number = makeNumber a } → MakeAdmits profile L r left
+admits profile L a r left q e = record {
+  answer = ap (λ (m : MakeReply). makeNumber (m .answer)) q ∙ sym (ap (λ (m : Made). m .number) e);
+  forecast = ap (λ (m : MakeReply). m .forecast) q ∙ sym (ap (λ (m : Made). m .forecast) e);
+  lent-left = sym (ap (λ (m : Made). m .lent) e);
+}
 
-empty-requires : tie.Need-empty-requires
-empty-requires c κs = search needs
+-- the entries of its table by the slots of a list
+size : (n : ℕ) → heightOf n ≢ 0 → (1 ≤ n / 32) × (n / 32 - 1 ≡ tableSize (heightOf n))
+size n h =
+    elim (height-cases n) [
+      | inl z ↦ absurd (h (z .0))
+      | inr z ↦ (omega (arith, z .2, pow-pos (heightOf n)), omega (arith, z .2, pow-succ' 2 (heightOf n)))
+    ]
 
 is-profile-requires : tie.Need-is-profile-requires
 is-profile-requires c κs = search needs
 
--- what is told, given back and left is what the rules make of it
-admits : (profile : ℕ) (slots : List ℕ) (a : MakeAnswer) (F : Forecast) (left : List ℕ) → Became [] F
-    → make profile slots ≡ record { slots = left; forecast = forecastOf []; number = makeNumber a } → MakeAdmits profile slots (record { forecast = F; answer = a }) left
-admits profile slots a F left became e = record {
-  answer = sym (ap (λ (m : Made). m .number) e);
-  forecast = became-is [] F became ∙ sym (ap (λ (m : Made). m .forecast) e);
-  slots-left = sym (ap (λ (m : Made). m .slots) e);
-}
+told-requires : tie.Need-told-requires
+told-requires c κs = search needs
 
 returns : tie.Need-returns
-returns c = admits _ _ _ _ _ (c .before .before .empty .ensures) (make-unknown _ _ (sym (c .before .is-profile .ensures) ∙ not-true _ (c .if1 .taken)))
+returns c = admits _ _ _ _ _ (c .told .ensures) (make-unknown _ _ (sym (c .before .before .is-profile .ensures) ∙ not-true _ (c .before .if1 .taken)))
+
+height-of-requires : tie.Need-height-of-requires
+height-of-requires c κs = search needs
+
+told-requires-2 : tie.Need-told-requires-2
+told-requires-2 c κs = search needs
 
 -- the profile is known
 known : (c : tie.Else1) → isProfile (c .before .before .before .before .args .profile) ≡ true
 known c = sym (c .before .is-profile .ensures) ∙ not-false _ (c .if1 .left)
 
-height-of-requires : tie.Need-height-of-requires
-height-of-requires c κs = search needs
-
 returns-2 : tie.Need-returns-2
-returns-2 c = admits _ _ _ _ _ (c .before .before .before .before .empty .ensures) (make-refused _ _ (known (c .before .before)) (sym (c .before .height-of .ensures .0) ∙ c .if2 .taken))
+returns-2 c = admits _ _ _ _ _ (c .told2 .ensures) (make-refused _ _ (known (c .before .before .before)) (sym (c .before .before .height-of .ensures .0) ∙ c .before .if2 .taken))
+
+-- and so is the length
+high : (c : tie.Else2) → heightOf (length (c .before .before .before .before .before .before .args .list .now)) ≢ 0
+high c e = absurd (omega (arith, c .if2 .left, c .before .height-of .ensures .0))
+
+sub-if3 : tie.Need-sub-if3
+sub-if3 c = size _ (high c) .0
+
+told-requires-3 : tie.Need-told-requires-3
+told-requires-3 c κs = search needs
+
+returns-3 : tie.Need-returns-3
+returns-3 c =
+    let p = c .before .before in
+    admits _ _ _ _ _ (c .told3 .ensures) (make-wrong-table _ _ (known (p .before .before)) (high p) (λ e. c .before .if3 .taken (e ∙ sym (size _ (high p) .1))))
 
 clear-requires : tie.Need-clear-requires
 clear-requires c κs = search needs
 
+clear-requires-2 : tie.Need-clear-requires-2
+clear-requires-2 c κs = search needs
+
+told-requires-4 : tie.Need-told-requires-4
+told-requires-4 c κs = search needs
+
 same-length : tie.Need-same-length
 same-length c = search needs
 
-returns-3 : tie.Need-returns-3
-returns-3 c =
-    let list : List ℕ = c .before .before .before .before .before .before .before .before .before .before .args .list .now in
-    let h : heightOf (length list) ≢ 0 = omega arith in
-    admits _ _ _ _ _ (c .before .before .before .before .before .before .before .before .empty .ensures)
-    (make-done _ list (known (c .before .before .before .before .before .before)) h ∙ ap {B = Made} (λ (l : List ℕ). record { slots = l; forecast = forecastOf []; number = 0 }) (sym (c .before .before .clear .ensures ∙ all-cleared list)))
+same-length-2 : tie.Need-same-length-2
+same-length-2 c = search needs
+
+returns-4 : tie.Need-returns-4
+returns-4 c =
+    let p = c .before .before .before .before .before .before .before .before .before .before in
+    let a = p .before .before .before .before .before .before .args in
+    let L : Lent = lend (a .list .now) (a .table .now) in
+    let slots = c .before .before .before .before .before .before .before .clear .ensures ∙ all-cleared (L .slots) in
+    let table = c .before .before .before .clear2 .ensures in
+    admits _ L _ _ _ (c .told4 .ensures)
+    (make-done _ L (known (p .before .before)) (high p) (c .before .before .before .before .before .before .before .before .before .if3 .left ∙ size _ (high p) .1)
+    ∙ λ i. record { lent = lend (sym slots i) (sym table i); forecast = forecastOf []; number = 0 })
 
 pub make-spec : {M : Type 1} → statement M
 make-spec =
     tie.close
     (tie.spec
-    empty-requires
     is-profile-requires
+    told-requires
     returns
     height-of-requires
+    told-requires-2
     returns-2
+    sub-if3
+    told-requires-3
+    returns-3
     clear-requires
+    clear-requires-2
+    told-requires-4
     same-length
-    returns-3)
+    same-length-2
+    returns-4)

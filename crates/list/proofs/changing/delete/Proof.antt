@@ -14,29 +14,38 @@ enum-known-verdict c = search needs
 same-length : tie.Need-same-length
 same-length c = search needs
 
+same-length-2 : tie.Need-same-length-2
+same-length-2 c = search needs
+
 returns : tie.Need-returns
 returns c =
-    let r = c .before .before .before .before .before .before .ask .ensures in
-    record { answer = answer-refused _ _ _ _ _ _ r _ (c .before .verdict .given .1); forecast = r .forecast; slots-left = r .slots-left }
+    let r = c .before .before .before .before .before .before .before .before .ask .ensures in
+    record { answer = answer-refused _ _ _ _ _ _ r _ (c .before .verdict .given .1); forecast = r .forecast; lent-left = r .lent-left }
 
 enum-told : tie.Need-enum-told
 enum-told c = search needs
 
-same-length-2 : tie.Need-same-length-2
-same-length-2 c = search needs
-
-returns-2 : tie.Need-returns-2
-returns-2 c =
-    let r = c .before .before .before .before .before .before .ask .ensures in
-    record { answer = answer-done _ _ _ _ _ _ r true (c .before .enum-told .given .1) (c .if1 .taken); forecast = r .forecast; slots-left = r .slots-left }
-
 same-length-3 : tie.Need-same-length-3
 same-length-3 c = search needs
 
+same-length-4 : tie.Need-same-length-4
+same-length-4 c = search needs
+
+returns-2 : tie.Need-returns-2
+returns-2 c =
+    let r = c .before .before .before .before .before .before .before .before .ask .ensures in
+    record { answer = answer-done _ _ _ _ _ _ r true (c .before .enum-told .given .1) (c .if1 .taken); forecast = r .forecast; lent-left = r .lent-left }
+
+same-length-5 : tie.Need-same-length-5
+same-length-5 c = search needs
+
+same-length-6 : tie.Need-same-length-6
+same-length-6 c = search needs
+
 returns-3 : tie.Need-returns-3
 returns-3 c =
-    let r = c .before .before .before .before .before .before .ask .ensures in
-    record { answer = answer-done _ _ _ _ _ _ r false (c .before .enum-told .given .1) (c .if1 .left); forecast = r .forecast; slots-left = r .slots-left }
+    let r = c .before .before .before .before .before .before .before .before .ask .ensures in
+    record { answer = answer-done _ _ _ _ _ _ r false (c .before .enum-told .given .1) (c .if1 .left); forecast = r .forecast; lent-left = r .lent-left }
 
 pub delete-spec : {M : Type 1} → statement M
 delete-spec =
@@ -45,9 +54,12 @@ delete-spec =
     ask-requires
     enum-known-verdict
     same-length
+    same-length-2
     returns
     enum-told
-    same-length-2
-    returns-2
     same-length-3
+    same-length-4
+    returns-2
+    same-length-5
+    same-length-6
     returns-3)

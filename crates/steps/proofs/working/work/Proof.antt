@@ -24,13 +24,13 @@ use Rattle.steps.proofs.working.work.Statement.{statement}
 use Rattle.steps.proofs.working.work.Tie as tie
 
 abbrev Inv-loop : tie.InvT-loop
-Inv-loop list₀ counts₀ bounds₀ plan₀ forecast₀ shape keys₀ requests allowance last₀ tally₀ list counts bounds plan forecast keys last tally =
+Inv-loop list₀ table₀ bounds₀ plan₀ forecast₀ shape keys₀ requests allowance last₀ tally₀ list table bounds plan forecast keys last tally =
     Going (record { slots = list₀; forecast = forecast₀; bytes = requests; allowance = allowance; shape = shape })
-    (record { slots = list; forecast = forecast; bounds = bounds; counts = counts; keys = keys; last = last; tally = tally })
-    × (length list ≡ length list₀) × (length counts ≡ length counts₀) × (length bounds ≡ length bounds₀) × (length plan ≡ length plan₀)
+    (record { slots = list; forecast = forecast; bounds = bounds; table = table; keys = keys; last = last; tally = tally })
+    × (length list ≡ length list₀) × (length table ≡ length table₀) × (length bounds ≡ length bounds₀) × (length plan ≡ length plan₀)
 
 abbrev μ-loop : tie.MeasureT-loop
-μ-loop list₀ counts₀ bounds₀ plan₀ forecast₀ shape keys₀ requests allowance last₀ tally₀ list counts bounds plan forecast keys last tally =
+μ-loop list₀ table₀ bounds₀ plan₀ forecast₀ shape keys₀ requests allowance last₀ tally₀ list table bounds plan forecast keys last tally =
     length requests - tally .place
 
 roomy : (s : tie.Start Inv-loop μ-loop) → Roomy (s .args .forecast)
@@ -49,7 +49,7 @@ module _ (c : tie.After-struct-known2 Inv-loop μ-loop) where
   abbrev here : Now
   here =
       let v = c .before .before .before .before .before .before .before .loop in
-      record { slots = v .list; forecast = v .forecast; bounds = v .bounds; counts = v .counts; keys = v .keys; last = v .last; tally = v .tally }
+      record { slots = v .list; forecast = v .forecast; bounds = v .bounds; table = v .table; keys = v .keys; last = v .last; tally = v .tally }
 
   abbrev aimed : Aim
   aimed = c .before .aim-at .result
@@ -70,7 +70,7 @@ module _ (c : tie.After-is-accepted Inv-loop μ-loop) where
   on = on-record (at-record r) (sym (c .before .before .halts .ensures) ∙ c .before .if2 .left)
 
   -- where the request is accepted
-  acting-here : c .is-accepted .result ≡ true → Acting (here r .slots) (here r .forecast) (here r .bounds) (here r .counts) (lent r .shape) (aimed r)
+  acting-here : c .is-accepted .result ≡ true → Acting (here r .slots) (here r .forecast) (here r .bounds) (here r .table) (lent r .shape) (aimed r)
   acting-here e = acting (turning (at-record r)) (sym (c .is-accepted .ensures) ∙ e)
 
 -- where the ways meet again: what the request leaves, and nothing has another length
@@ -80,11 +80,11 @@ module _ (c : tie.Joined3 Inv-loop μ-loop) where
 
   abbrev Same : Type 0
   Same =
-      (length (c .if3 .list) ≡ length (here w .slots)) × (length (c .if3 .counts) ≡ length (here w .counts)) × (length (c .if3 .bounds) ≡ length (here w .bounds))
+      (length (c .if3 .list) ≡ length (here w .slots)) × (length (c .if3 .table) ≡ length (here w .table)) × (length (c .if3 .bounds) ≡ length (here w .bounds))
       × (length (c .if3 .plan) ≡ length (c .before .before .before .before .before .before .before .before .before .before .before .loop .plan))
 
   settled : Turned (outcome (sharesAt (lent w .shape)) (requestOf (drop (here w .tally .place) (lent w .bytes))) (roomOf (here w .slots) (here w .forecast)))
-      (c .if3 .list) (c .if3 .forecast) (c .if3 .bounds) (c .if3 .counts) (lent w .shape) (keysOf (here w .keys) (aimed w)) × Same
+      (c .if3 .list) (c .if3 .forecast) (c .if3 .bounds) (c .if3 .table) (lent w .shape) (keysOf (here w .keys) (aimed w)) × Same
   settled =
       ⊎-elim
       (λ y.
@@ -116,7 +116,7 @@ loop-holds : tie.Need-loop-holds Inv-loop μ-loop
 loop-holds c =
     let s = c .before .before .before .before .before .before in
     rw (c .none .ensures) (
-      going-start (s .args .list .now) (s .args .forecast) (s .args .requests .now) (s .args .allowance) (s .args .shape) (s .args .bounds .now) (s .args .counts .now) (s .args .keys) _ (s .pre .0) (s .pre .1) (roomy s),
+      going-start (s .args .list .now) (s .args .forecast) (s .args .requests .now) (s .args .allowance) (s .args .shape) (s .args .bounds .now) (s .args .table .now) (s .args .keys) _ (s .pre .0) (s .pre .1) (roomy s),
       refl,
       refl,
       refl,

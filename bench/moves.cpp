@@ -23,13 +23,12 @@ static std::vector<uint64_t> live(const std::vector<uint64_t> &slots) {
   return keys;
 }
 
-// The archive's outcome of one request on these slots with an empty forecast; the slots become those after it.
-static Outcome by_archive(std::vector<uint64_t> &slots, const Request &q) {
+// The archive's list after one request on these slots with an empty forecast.
+static List by_archive(const std::vector<uint64_t> &slots, const Request &q) {
   List list;
   list.hold(slots);
-  const uint64_t moves = list.run(records({q}));
-  slots = list.slots;
-  return {moves, list.totals[3] == 1};
+  list.run(records({q}));
+  return list;
 }
 
 struct Sum {
@@ -41,11 +40,12 @@ struct Sum {
 // the same slots too, unless an insert sweeps: then the key before it has a weight.
 static Outcome even_step(Even &even, const Pattern &p, size_t i) {
   const Request &q = p.requests[i];
-  std::vector<uint64_t> slots = even.slots();
-  const Outcome archive = by_archive(slots, q), own = even.work(q);
-  must(own.moves == archive.moves && own.swept == archive.swept, "even spacing moves otherwise", p, i);
+  const List list = by_archive(even.slots(), q);
+  const Outcome own = even.work(q);
+  must(own.moves == list.totals[2] && own.swept == (list.totals[3] == 1), "even spacing moves otherwise", p, i);
   const bool weighed = q.insert && own.swept;
-  must(weighed ? live(even.slots()) == live(slots) : even.slots() == slots, "even spacing leaves other slots", p, i);
+  must(weighed ? live(even.slots()) == live(list.slots) : even.slots() == list.slots, "even spacing leaves other slots", p, i);
+  must(list.dealt(), "a card is not with its key", p, i);
   return own;
 }
 
@@ -65,8 +65,10 @@ static void compare(const Pattern &p) {
   }
   must(live(second.slots) == live(single.slots), "the profiles hold other keys", p, p.requests.size());
   const uint64_t moves = whole.run(records(p.requests));
-  must(moves == rules && whole.slots == single.slots && whole.table == single.table && whole.forecast == single.forecast,
+  must(moves == rules && whole.slots == single.slots && whole.cards == single.cards && whole.table == single.table &&
+           whole.forecast == single.forecast,
        "a run and single calls differ", p, p.requests.size());
+  must(whole.dealt() && second.dealt(), "a card is not with its key", p, p.requests.size());
   printf("pattern\t%s\t%zu\t%zu\t%llu\t%u\t%llu\t%llu\n", p.name.c_str(), p.requests.size(), live(single.slots).size(),
          (unsigned long long)moves, whole.totals[3], (unsigned long long)spaced.moves, (unsigned long long)spaced.sweeps);
 }

@@ -12,6 +12,8 @@ uint64_t Random::key() {
   return (z ^ (z >> 31)) | 1;
 }
 
+uint32_t card_of(uint64_t key) { return uint32_t(key * 0x9e3779b97f4a7c15 >> 32); }
+
 static Requests up(size_t n) {
   Requests r;
   for (uint64_t k = 1; k <= n; k++) r.push_back({true, k});
@@ -88,16 +90,22 @@ static Requests thirty(size_t n) {
 }
 
 std::vector<Pattern> patterns(size_t n) {
-  return {{"sequential up", up(n)}, {"sequential down", down(n)}, {"hammer on one key", hammer(n)},
-          {"random", anywhere(n)},  {"bulk", bulk(n)},            {"mixed", mixed(n)},
-          {"thirty behind one moment", thirty(n)}};
+  std::vector<Pattern> all = {{"sequential up", up(n)}, {"sequential down", down(n)}, {"hammer on one key", hammer(n)},
+                              {"random", anywhere(n)},  {"bulk", bulk(n)},            {"mixed", mixed(n)},
+                              {"thirty behind one moment", thirty(n)}};
+  for (Pattern &p : all)
+    for (Request &q : p.requests)
+      if (q.insert) q.card = card_of(q.key);
+  return all;
 }
 
-std::vector<uint8_t> records(const Requests &requests) {
+std::vector<uint8_t> records(const Requests &requests, Form form) {
   std::vector<uint8_t> bytes;
   for (const Request &q : requests) {
-    bytes.insert(bytes.end(), {0xA5, 0x5A, uint8_t(q.insert ? 1 : 2)});
+    const bool carded = q.insert && form == Form::CARDS;
+    bytes.insert(bytes.end(), {0xA5, 0x5A, uint8_t(carded ? 4 : q.insert ? 1 : 2)});
     for (int shift = 56; shift >= 0; shift -= 8) bytes.push_back(uint8_t(q.key >> shift));
+    for (int shift = 24; shift >= 0 && carded; shift -= 8) bytes.push_back(uint8_t(q.card >> shift));
   }
   return bytes;
 }

@@ -13,6 +13,7 @@ constexpr size_t MOST = SEGMENTS * 32, MOST_SECOND = SEGMENTS * 44; // keys, by 
 struct Request {
   bool insert; // else delete
   uint64_t key;
+  uint32_t card = 0; // of an insert
 };
 struct Pattern {
   std::string name;
@@ -30,6 +31,10 @@ class Random {
   uint64_t state;
 };
 
-std::vector<Pattern> patterns(size_t keys = MOST);                  // of so many keys, a multiple of 32
-std::vector<uint8_t> records(const std::vector<Request> &); // as a run takes them
+uint32_t card_of(uint64_t key);                    // the card that comes with a key in every pattern; 0 for 0
+std::vector<Pattern> patterns(size_t keys = MOST); // of so many keys, a multiple of 32
+
+// As a run takes them: inserts by records of kind 4, or, with no cards, of kind 1.
+enum class Form { CARDS, NO_CARDS };
+std::vector<uint8_t> records(const std::vector<Request> &, Form = Form::CARDS);
 #endif

@@ -6,8 +6,9 @@
 #include "sets.h"
 
 using Keys = std::vector<uint64_t>;
+using Cards = std::vector<uint32_t>;
 
-static uint64_t hash(const Keys &words) {
+template <class Words> uint64_t hash(const Words &words) {
   uint64_t h = 1;
   for (uint64_t w : words) h = (h ^ w) * 0x9e3779b97f4a7c15, h ^= h >> 32;
   return h;
@@ -19,15 +20,18 @@ template <class Set> void requests(Rows &rows, const Pattern &p) {
   const Set after = rows.row(p.name, p.requests.size(), Set(), [&](Set &set) { accepted = set.work(work); });
   rows.agree(p.name + ": accepted", Set::name, accepted);
   Keys keys(MOST);
-  keys.resize(after.scan(0, keys.data(), MOST));
+  Cards cards(MOST);
+  keys.resize(after.scan(0, keys.data(), cards.data(), MOST));
   rows.agree(p.name + ": keys", Set::name, hash(keys));
+  cards.resize(keys.size());
+  rows.agree(p.name + (Set::CARDED ? ": cards" : ": no cards"), Set::name, hash(cards));
 }
 
-// A row of lookups: which of the keys were found.
+// A row of lookups: which of the keys were found, with their cards.
 template <class Set> Keys found(Rows &rows, const char *name, const Set &set, const Keys &keys) {
   Keys is(keys.size());
   rows.row(name, keys.size(), set, [&](Set &s) {
-    for (size_t i = 0; i < keys.size(); i++) is[i] = s.has(keys[i]);
+    for (size_t i = 0; i < keys.size(); i++) is[i] = s.find(keys[i]);
   });
   return is;
 }
@@ -36,18 +40,19 @@ template <class Set> void lookups(Rows &rows, const char *name, const Set &set, 
   rows.agree(name, Set::name, hash(found(rows, name, set, keys)));
 }
 
-// Scans of `room` keys above each of these. An operation is a key written.
+// Scans of `room` keys above each of these, and of their cards. An operation is a key written.
 template <class Set> void scans(Rows &rows, const char *name, const Set &set, const Keys &from, size_t room) {
   Keys output(from.size() * room);
+  Cards cards(output.size());
   size_t written = 0;
   const auto act = [&](Set &s) {
     written = 0;
-    for (size_t i = 0; i < from.size(); i++) written += s.scan(from[i], output.data() + i * room, room);
+    for (size_t i = 0; i < from.size(); i++) written += s.scan(from[i], output.data() + i * room, cards.data() + i * room, room);
   };
   Set s = set;
   act(s);
   rows.row(name, written, set, act);
-  rows.agree(name, Set::name, hash(output));
+  rows.agree(name, Set::name, hash(output) ^ hash(cards));
 }
 
 template <class Set> Set filled(const Pattern &p) {
@@ -87,8 +92,10 @@ struct Refused : List {
 };
 
 static void own_part(Rows &rows, const char *name, const List &list, const Keys &live) {
-  const size_t n = live.size();
-  const bool right = found(rows, name, Lookup{list}, live) == Keys(n, 1) && found(rows, name, Refused{list}, Keys(n, 0)) == Keys(n, 0);
+  const Keys none(live.size(), 0);
+  Keys wanted;
+  for (uint64_t key : live) wanted.push_back(PRESENT + card_of(key));
+  const bool right = found(rows, name, Lookup{list}, live) == wanted && found(rows, name, Refused{list}, none) == none;
   rows.agree(name, "the archive", list.sound() && right);
   rows.agree(name, "a sound list with these keys", true);
 }
@@ -131,6 +138,7 @@ int main(int, char **argv) {
   const std::vector<Pattern> all = patterns();
   for (const Pattern &p : all) {
     requests<Runs>(rows, p);
+    requests<PlainRuns>(rows, p);
     requests<Singly<Calls>>(rows, p);
     requests<Singly<Binary>>(rows, p);
     requests<Singly<Broad>>(rows, p);

@@ -10,10 +10,11 @@ import sequences
 import wide
 
 GROUPS = {**sequences.GROUPS, **refusals.GROUPS, **records.GROUPS, **over.GROUPS, **wide.GROUPS}
-WHOLE = wide.EPISODES               # groups that are worked whole, at every height: so many episodes, by the height
+WHOLE = {**records.EPISODES, **wide.EPISODES}   # groups that are worked whole, at every height: so many episodes, by the height
 
-REACHED = dict(make=(0, 1, 14, 15, 100), check=(0, 1, 2, 3, 4, 14, 15, 100), lookup=(0, 1, 2, 3, 5, 14, 15, 100),
-               insert=(0, 1, 2, 3, 4, 5, 6, 8, 14, 15, 100), delete=(0, 1, 2, 3, 4, 5, 7, 14, 15, 100), scan=(0, 1, 2, 3, 14, 15, 100),
-               run=(0, 1, 2, 3, 4, 9, 10, 14, 15, 100), over=(0, 1, 2, 3, 4, 9, 10, 14, 15))
+LIST = (0, 15, 1, 12, 2, 13, 3, 14)
+BOTH = LIST + (4,)
+REACHED = dict(make=(0, 15, 1, 12, 14, 100), check=BOTH + (100,), lookup=LIST + (5, 100), insert=BOTH + (5, 6, 8, 100),
+               delete=BOTH + (5, 7, 100), scan=LIST + (100,), run=BOTH + (9, 10, 100), over=BOTH + (9, 10))
 SELDOM = ("over",)  # by either profile
 ENOUGH = 10000      # calls of all groups that reach all these

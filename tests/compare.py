@@ -8,7 +8,8 @@ FF_CC, FF_ARCHIVE, FF_RUN_ARCHIVE and FF_EMULATOR name the compiler, the archive
 """
 import argparse
 import collections
-import multiprocessing
+import concurrent.futures
+import os
 import random
 import sys
 import tempfile
@@ -40,7 +41,7 @@ def difference(driver, lent):
 def told(lent):
     """A call in short."""
     sizes = " ".join("%s %d" % (name, len(slice)) for name, slice in zip(wire.SLICES, lent.slices()) if slice)
-    return "%s(%d, %d) lent %s" % (lent.call, lent.profile, lent.number, sizes)
+    return "%s(%d, %d, card %d) lent %s" % (lent.call, lent.profile, lent.number, lent.card, sizes)
 
 
 class Cell:
@@ -75,7 +76,7 @@ class Cell:
     def work(self):
         driver = wire.Driver(self.task.program)
         for episode in self.task.episodes:
-            if not self.play(driver, episode) or self.calls >= self.task.calls:
+            if os.path.exists(enough(self.task.program)) or not self.play(driver, episode) or self.calls >= self.task.calls:
                 break
         if driver.close() != 0 and not self.differences:
             self.differences.append("the driver failed")
@@ -85,6 +86,11 @@ class Cell:
 def work(task):
     """For the pool."""
     return Cell(task).work()
+
+
+def enough(program):
+    """A file beside the driver: where it is, cells that are still under way end early."""
+    return program + ".enough"
 
 
 def tasks(args, program):
@@ -100,12 +106,15 @@ def tasks(args, program):
 
 
 def worked(args):
-    """The cells, worked two at a time; with --first, as far as the first difference."""
-    with tempfile.TemporaryDirectory() as folder, multiprocessing.Pool(2) as pool:
-        done = []
-        for cell in pool.imap(work, tasks(args, wire.build(folder))):
+    """The cells, worked two at a time; with --first, as far as the first difference. Those under way then are told so and end by
+    themselves: a process that is killed may hold a lock that the others wait for."""
+    with tempfile.TemporaryDirectory() as folder, concurrent.futures.ProcessPoolExecutor(2) as pool:
+        program, done = wire.build(folder), []
+        for cell in pool.map(work, tasks(args, program)):
             done.append(cell)
             if args.first and cell.differences:
+                open(enough(program), "w").close()
+                pool.shutdown(cancel_futures=True)
                 break
         return done
 

@@ -1,4 +1,5 @@
-"""Damaged lists, tables and forecasts: each damage takes a hand with a good list, table and forecast, and harms one of them."""
+"""Damaged lists, cards, tables and forecasts: each damage takes a hand with a good list, cards, table and forecast, and harms one of
+them."""
 import model
 from starts import TOP, cell, some_forecast, some_list, spread
 
@@ -10,6 +11,7 @@ def length(hand):
     n = hand.rng.choice(LENGTHS)
     rest = max(0, n - len(hand.list))
     hand.list = hand.list[:n] + hand.rng.choice(([0] * rest, hand.junk(rest)))
+    hand.cards = hand.rng.choice((hand.cards, (hand.cards + [0] * rest)[:n]))
 
 
 def neighbours(hand, apart):
@@ -70,6 +72,65 @@ def too_many(hand):
 
 ORDER = (equal, falling, equal_apart, falling_apart, gap_within, after_gap)
 LISTS = (length, too_many, length) + ORDER
+
+
+# ---- Cards: beside a key any, beside a gap 0 ----------------------------------------------------------------------------------
+
+STRAYS = (1, 255, 256, 2 ** 16, 2 ** 24, 2 ** 31, model.MOST_CARD)
+
+
+def card(hand, slot, value):
+    hand.cards = hand.cards[:slot] + [value] + hand.cards[slot + 1:]
+
+
+def gaps(hand):
+    """Slots that are gaps: the first of the list, the last, and any, the first of a segment's among them."""
+    every = [slot for slot, key in enumerate(hand.list) if key == 0]
+    behind = [slot for slot in every if slot % model.SEGMENT == 0 or hand.list[slot - 1]]
+    return [every[0], every[-1], hand.rng.choice(every), hand.rng.choice(behind)] if every else []
+
+
+def stray(hand):
+    """A card in a gap."""
+    for slot in gaps(hand)[hand.rng.randrange(4):][:1]:
+        card(hand, slot, hand.rng.choice(STRAYS + (hand.a_card(),)))
+
+
+def strays(hand):
+    """Two, that are the same or come to 0."""
+    value = hand.rng.choice(STRAYS)
+    for slot, one in zip(gaps(hand)[::2], (value, hand.rng.choice((value, -value % 2 ** 32)))):
+        card(hand, slot, one)
+
+
+def late(hand):
+    """The cards of a segment stand one slot late."""
+    start = model.SEGMENT * hand.rng.randrange(2 ** hand.h)
+    end = start + model.SEGMENT
+    hand.cards = hand.cards[:start] + [0] + hand.cards[start:end - 1] + hand.cards[end:]
+
+
+def left_behind(hand):
+    """A last key of its segment goes from list and table, and leaves its card."""
+    segments, cards = model.to_segments(hand.list), hand.cards
+    hand.rng.choice([keys for keys in segments if keys]).pop()
+    hand.lay(model.to_slots(segments))
+    hand.cards = cards
+
+
+def everywhere(hand):
+    hand.cards = hand.junk_cards(len(hand.cards))
+
+
+def card_length(hand):
+    """A length that is not the list's: nothing, one less or more, a segment's more, or that of another height; right as far as it goes."""
+    size = len(hand.cards)
+    n = hand.rng.choice([0, size - 1, size + 1, size + 64] + [64 * 2 ** h for h in range(7) if h != hand.h])
+    longer = hand.cards + hand.rng.choice(([0], hand.junk_cards(1))) * max(0, n - size)
+    hand.cards = hand.rng.choice((longer[:n], longer[len(longer) - n:]))
+
+
+CARDS = (stray, card_length, strays, late, left_behind, everywhere)
 
 
 # ---- Tables: segments first, then the levels above them, each left to right ----------------------------------------------------

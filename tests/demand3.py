@@ -11,6 +11,7 @@ import sys
 import model
 import oracle
 import sequences
+import sums
 from hand import Hand
 from starts import TOP, any_counts, overfull, some_forecast, thin, underfull
 
@@ -61,10 +62,10 @@ class Recorder:
         self.again = collections.Counter()      # windows swept again, by profile, level and kind
 
     def high(self, level):
-        return model.SHARES[self.profile][self.h][0][level]
+        return sums.SHARES[self.profile][self.h][0][level]
 
     def low(self, level):
-        return model.SHARES[self.profile][self.h][1][level]
+        return sums.SHARES[self.profile][self.h][1][level]
 
     def afresh(self, profile=None):
         """Nothing from before counts from here on."""
@@ -192,7 +193,7 @@ def at_height(rng, h, count, tally):
 def main(args):
     count = int(args[0]) if args else 2000
     rng = random.Random(int(args[1]) if len(args) > 1 else 1)
-    tally = model.Tally()
+    tally = sums.Tally()
     by_hand(tally)
     print("windows swept again, level 1 first: by inserts, by deletes; then the same of profile 2")
     again = []

@@ -1,8 +1,8 @@
 /* Makes the calls that standard input asks for, and writes back what each returned and all the memory it was lent, with guards.
 
    Asked, in words of 64 bits, low byte first: the call (1 to 7, in the order of the header; 8, the run over lent totals as a struct),
-   the profile, the call's number (key, from or allowance),
-   the lengths of the seven slices below in elements; then their contents. A slice that the call does not take is left alone.
+   the profile, the call's number (key, from or allowance), the card of an insert,
+   the lengths of the nine slices below in elements; then their contents. A slice that the call does not take is left alone.
    Answered: the word returned; then each slice with GUARD bytes before it and after it, as they now are. */
 #include "ffalwenog.h"
 #include "over.h"
@@ -10,11 +10,11 @@
 #include <stdio.h>
 #include <stdlib.h>
 
-enum { LIST, TABLE, FORECAST, REQUESTS, TOTALS, OUTPUT, REPLY, SLICES };
+enum { LIST, CARDS, TABLE, FORECAST, REQUESTS, TOTALS, OUTPUT, OUTPUT_CARDS, REPLY, SLICES };
 enum { MAKE = 1, CHECK, LOOKUP, INSERT, DELETE, SCAN, RUN, OVER };
-enum { GUARD = 32, MOST = 1 << 20, HEAD = 3 + SLICES };
+enum { GUARD = 32, MOST = 1 << 20, HEAD = 4 + SLICES };
 
-static const size_t width[SLICES] = {8, sizeof(size_t), 8, 1, 4, 8, 8};
+static const size_t width[SLICES] = {8, 4, sizeof(size_t), 8, 1, 4, 8, 4, 8};
 
 /* Guards and content stand in one piece of memory; the content is aligned as its elements ask, and no better. */
 struct slice {
@@ -45,25 +45,29 @@ static void lend(struct slice *s, size_t element, size_t length)
     must(fread(s->content, 1, s->size, stdin) == s->size, "a call cut short");
 }
 
-static uint64_t call(uint64_t ask, uint64_t profile, uint64_t number, struct slice *s)
+static uint64_t call(uint64_t ask, uint64_t profile, uint64_t number, uint32_t card, struct slice *s)
 {
-    uint64_t *list = s[LIST].content, *forecast = s[FORECAST].content, *output = s[OUTPUT].content, *reply = s[REPLY].content;
-    size_t *table = s[TABLE].content, n = s[LIST].length, t = s[TABLE].length, f = s[FORECAST].length, r = s[REPLY].length;
+    uint64_t *list = s[LIST].content, *forecast = s[FORECAST].content, *reply = s[REPLY].content;
+    uint32_t *cards = s[CARDS].content;
+    size_t *table = s[TABLE].content;
+    size_t n = s[LIST].length, c = s[CARDS].length, t = s[TABLE].length, f = s[FORECAST].length, r = s[REPLY].length;
 
     switch (ask) {
-    case MAKE: return ff_make(profile, list, n, table, t, forecast, f);
-    case CHECK: return ff_check(profile, list, n, table, t, forecast, f);
-    case LOOKUP: return ff_lookup(profile, list, n, table, t, number, reply, r);
-    case INSERT: return ff_insert(profile, list, n, table, t, forecast, f, number, reply, r);
-    case DELETE: return ff_delete(profile, list, n, table, t, forecast, f, number, reply, r);
-    case SCAN: return ff_scan(profile, list, n, table, t, number, output, s[OUTPUT].length, reply, r);
+    case MAKE: return ff_make(profile, list, n, cards, c, table, t, forecast, f);
+    case CHECK: return ff_check(profile, list, n, cards, c, table, t, forecast, f);
+    case LOOKUP: return ff_lookup(profile, list, n, cards, c, table, t, number, reply, r);
+    case INSERT: return ff_insert(profile, list, n, cards, c, table, t, forecast, f, number, card, reply, r);
+    case DELETE: return ff_delete(profile, list, n, cards, c, table, t, forecast, f, number, reply, r);
+    case SCAN:
+        return ff_scan(profile, list, n, cards, c, table, t, number, s[OUTPUT].content, s[OUTPUT].length,
+                       s[OUTPUT_CARDS].content, s[OUTPUT_CARDS].length, reply, r);
     case RUN:
-        return ff_run(profile, list, n, table, t, forecast, f, s[REQUESTS].content, s[REQUESTS].length, number,
+        return ff_run(profile, list, n, cards, c, table, t, forecast, f, s[REQUESTS].content, s[REQUESTS].length, number,
                       s[TOTALS].content, s[TOTALS].length, reply, r);
     case OVER:
         must(f == FF_FORECAST && s[TOTALS].length == FF_TOTALS && r >= 4 && has_room(forecast), "no room");
-        return run_over(profile, list, n, table, t, forecast, s[REQUESTS].content, s[REQUESTS].length, number, s[TOTALS].content,
-                        reply);
+        return run_over(profile, list, n, cards, c, table, t, forecast, s[REQUESTS].content, s[REQUESTS].length, number,
+                        s[TOTALS].content, reply);
     }
     must(0, "no such call");
     return 0;
@@ -76,8 +80,8 @@ int main(void)
 
     while (fread(head, sizeof head, 1, stdin) == 1) {
         for (int i = 0; i < SLICES; i++)
-            lend(&lent[i], width[i], head[3 + i]);
-        uint64_t returned = call(head[0], head[1], head[2], lent);
+            lend(&lent[i], width[i], head[4 + i]);
+        uint64_t returned = call(head[0], head[1], head[2], (uint32_t)head[3], lent);
         fwrite(&returned, sizeof returned, 1, stdout);
         for (int i = 0; i < SLICES; i++) {
             fwrite(lent[i].guarded, 1, lent[i].size + 2 * GUARD, stdout);

@@ -1,4 +1,5 @@
-"""The hand that lends: a list, its table, a forecast and totals that go from call to call, mostly by the profile that they were made for."""
+"""The hand that lends: a list, its cards and table, a forecast and totals that go from call to call, mostly by the profile that they were
+made for."""
 import model
 import oracle
 from starts import TOP, any_counts, some_forecast, some_list
@@ -21,8 +22,8 @@ class Hand:
         self.totals = [rng.choice((0, 2 ** 32 - 1, rng.randrange(2 ** 32))) for _ in range(oracle.TOTALS)]
 
     def lay(self, slots):
-        """Another good list, and its table."""
-        self.list, self.table = model.tabled(slots)
+        """Another good list, a card beside each of its keys, and its table."""
+        self.list, self.cards, self.table = model.laid(slots, {key: self.a_card() for key in model.live_keys(slots)})
 
     def live(self):
         return model.live_keys(self.list)
@@ -34,6 +35,11 @@ class Hand:
 
     def a_key(self):
         return self.rng.randint(1, TOP)
+
+    def a_card(self):
+        """Any; 0 and the greatest are seldom and often enough."""
+        way = self.rng.random()
+        return 0 if way < 0.1 else model.MOST_CARD if way < 0.2 else self.rng.randint(1, model.MOST_CARD)
 
     def near_key(self):
         """A key beside a live one, or the live one."""
@@ -52,24 +58,40 @@ class Hand:
         """Words to find again, or to see overwritten."""
         return [self.rng.randint(1, TOP) for _ in range(n)]
 
-    def lend(self, call, number=0, requests=b"", room=0, profile=None):
+    def junk_cards(self, n):
+        return [self.rng.randint(1, model.MOST_CARD) for _ in range(n)]
+
+    def packed(self, kind, key):
+        """A request as a record: an insert with a card, or of kind 1."""
+        if kind == "insert" and self.rng.random() < 0.65:
+            return model.record(model.CARDED, key, self.a_card())
+        return model.record(dict(insert=model.INSERT, delete=model.DELETE)[kind], key)
+
+    def room_beside(self, room):
+        """For cards, beside room for so many keys: mostly as much, else less or more."""
+        rng = self.rng
+        return rng.choice((room, room, room, 0, max(0, room - 1), room + 1, rng.randint(0, room), rng.randint(room, 2 * room)))
+
+    def lend(self, call, number=0, requests=b"", room=0, profile=None, card=None):
         """A call with all that it takes; its reply is at times longer than listed."""
-        reply = oracle.LISTED[call]
+        reply = self.junk(oracle.LISTED[call] + self.rng.choice((0, 0, 1, 3)))
         profile = self.named() if profile is None else profile
-        lent = Lent(call, profile, number, self.list, self.table, reply=self.junk(reply + self.rng.choice((0, 0, 1, 3))))
+        lent = Lent(call, profile, number, 0, self.list, self.cards, self.table, reply=reply)
+        if call == "insert":
+            lent.card = self.a_card() if card is None else card
         if call in oracle.WITH_FORECAST:
             lent.forecast = self.forecast
         if call == "run":
             lent.requests, lent.totals = requests, self.totals
         if call == "scan":
-            lent.output = self.junk(room)
+            lent.output, lent.output_cards = self.junk(room), self.junk_cards(self.room_beside(room))
         return lent
 
     def call(self, call, number=0, **more):
         """Makes a call, and goes on with what it left."""
         lent = self.lend(call, number, **more)
         returned, after = yield lent
-        self.list, self.table = after.list, after.table
+        self.list, self.cards, self.table = after.list, after.cards, after.table
         if lent.forecast:
             self.forecast = after.forecast
         if lent.totals:

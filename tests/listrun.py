@@ -1,7 +1,9 @@
-"""Runs `listrun` on inputs of many lengths, by file and by a slow pipe: it writes what the model does, and leaves the rest unread.
+"""Runs `listrun` on inputs of many lengths, by file and by a slow pipe: it writes what the model does, and leaves the rest unread. The
+records are of both sizes, with cards and without.
 
 FF_LISTRUN names the program, FF_TOOLS the folder with its loader, FF_EMULATOR the emulator if there is one (tests/run sets them).
 """
+import itertools
 import os
 import random
 import subprocess
@@ -11,39 +13,45 @@ import threading
 import time
 
 import model
+import sums
 
 MOST = 65536
 
 
 def changes(n):
-    """n records, inserts and deletes, most of them worked."""
+    """n records, inserts of both kinds and deletes, most of them worked."""
     rng = random.Random(n)
     live, data = [], []
     for _ in range(n):
-        kind = 2 if live and rng.random() < len(live) / 140 else 1
-        key = rng.choice(live) if kind == 2 or live and rng.random() < 0.05 else rng.randint(1, 2 ** 64 - 1)
-        if kind == 2:
+        kind = model.DELETE if live and rng.random() < len(live) / 140 else rng.choice((model.INSERT, model.CARDED))
+        key = rng.choice(live) if kind == model.DELETE or live and rng.random() < 0.05 else rng.randint(1, 2 ** 64 - 1)
+        if kind == model.DELETE:
             live.remove(key)
         elif key not in live and len(live) < model.most_keys(1, 2):
             live.append(key)
-        data.append(model.record(kind, key))
-    return b"".join(data)
+        data.append(model.record(kind, key, rng.randint(0, model.MOST_CARD)))
+    return data
 
 
-LONG = changes(7000)
-SHORT = changes(3)
+RECORDS = changes(7000)
+LONG = b"".join(RECORDS)
+WHOLE = max(end for end in itertools.accumulate(map(len, RECORDS)) if end <= MOST)      # the last end of a record in what is read
+SHORT = b"".join(changes(3))
 INPUTS = {
     "nothing": b"",
     "one byte": LONG[:1],
-    "a short record": SHORT[:-1],
+    "a short record": SHORT + model.record(model.INSERT, 5)[:-1],
+    "a short record with a card": SHORT + model.record(model.CARDED, 5, 7)[:-1],
+    "a record without its card": SHORT + model.record(model.CARDED, 5, 7)[:-4],
     "a wrong kind": SHORT + model.record(3, 5) + SHORT,
-    "a wrong mark": SHORT + b"\x5a\xa5" + model.record(1, 5)[2:] + SHORT,
-    "sum 1": b"".join(model.record(1, key) for key in range(1, 66)),
-    "the last whole record": LONG[:MOST - MOST % model.RECORD],
+    "a wrong mark": SHORT + b"\x5a\xa5" + model.record(model.CARDED, 5, 7)[2:] + SHORT,
+    "sum 1": b"".join(model.record(model.INSERT, key) for key in range(1, 66)),
+    "sum 1 with cards": b"".join(model.record(model.CARDED, key, 100 + key) for key in range(1, 66)),
+    "the last whole record": LONG[:WHOLE],
     "65,535 bytes": LONG[:MOST - 1],
     "65,536 bytes": LONG[:MOST],
     "65,537 bytes": LONG[:MOST + 1],
-    "77,000 bytes": LONG,
+    "7,000 records": LONG,
 }
 
 
@@ -68,7 +76,7 @@ def written_slowly(end, data):
     rng = random.Random(len(data))
     with open(end, "wb", buffering=0) as f:
         while data:
-            part = rng.choice((1, 10, 11, 1000, 4096, 9999))
+            part = rng.choice((1, 10, 11, 15, 1000, 4096, 9999))
             f.write(data[:part])
             data = data[part:]
             time.sleep(rng.choice((0, 0.001, 0.01)))
@@ -96,7 +104,7 @@ def by_directory():
 
 
 def main():
-    tally = model.Tally()
+    tally = sums.Tally()
     for name, data in INPUTS.items():
         wanted = model.listrun_text(data[:MOST])
         for way in (by_file, by_slow_pipe):

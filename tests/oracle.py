@@ -4,7 +4,7 @@ from dataclasses import replace
 import model
 
 WRONG_SIZE = 100
-LISTED = dict(make=0, check=0, lookup=2, insert=1, delete=2, scan=2, run=4, over=4)     # the words of each call's reply
+LISTED = dict(make=0, check=0, lookup=3, insert=1, delete=2, scan=2, run=4, over=4)     # the words of each call's reply
 FORECAST = 1 + 3 * model.ROOM
 TOTALS = 4
 WITH_FORECAST = ("make", "check", "insert", "delete", "run", "over")
@@ -32,39 +32,52 @@ def worked(lent, reply, **changed):
     return replace(lent, reply=reply + lent.reply[len(reply):], **changed)
 
 
+def read(lent):
+    """What every call takes first."""
+    return lent.profile, lent.list, lent.cards, lent.table
+
+
+def left(slots, cards, table, forecast):
+    """The slices that a call may have changed."""
+    return dict(list=slots, cards=cards, table=table, forecast=words(forecast))
+
+
 def make(lent):
-    number, slots, table, forecast = model.make(lent.profile, lent.list, lent.table)
-    return number, worked(lent, [], list=slots, table=table, forecast=words(forecast))
+    number, *after = model.make(*read(lent))
+    return number, worked(lent, [], **left(*after))
 
 
 def check(lent):
-    return model.check(lent.profile, lent.list, lent.table, cells(lent.forecast)), lent
+    return model.check(*read(lent), cells(lent.forecast)), lent
 
 
 def lookup(lent):
-    number, *reply = model.lookup(lent.profile, lent.list, lent.table, lent.number)
+    number, *reply = model.lookup(*read(lent), lent.number)
     return number, worked(lent, reply)
 
 
-def change(lent):
-    called = CHANGES[lent.call](lent.profile, lent.list, lent.table, cells(lent.forecast), lent.number)
-    number, *reply, slots, table, forecast = called
-    return number, worked(lent, reply, list=slots, table=table, forecast=words(forecast))
+def insert(lent):
+    number, moves, *after = model.insert(*read(lent), cells(lent.forecast), lent.number, lent.card)
+    return number, worked(lent, [moves], **left(*after))
+
+
+def delete(lent):
+    number, moves, sparse, *after = model.delete(*read(lent), cells(lent.forecast), lent.number)
+    return number, worked(lent, [moves, sparse], **left(*after))
 
 
 def scan(lent):
-    number, *reply, output = model.scan(lent.profile, lent.list, lent.table, lent.number, lent.output)
-    return number, worked(lent, reply, output=output)
+    number, written, more, output, output_cards = model.scan(*read(lent), lent.number, lent.output, lent.output_cards)
+    return number, worked(lent, [written, more], output=output, output_cards=output_cards)
 
 
 def run(lent):
-    ran = model.run(lent.profile, lent.list, lent.table, cells(lent.forecast), lent.requests, lent.number, lent.totals)
-    done, refused, moves, stop, place, slots, table, forecast, totals = ran
-    return stop, worked(lent, [done, refused, moves, place], list=slots, table=table, forecast=words(forecast), totals=totals)
+    ran = model.run(*read(lent), cells(lent.forecast), lent.requests, lent.number, lent.totals)
+    done, refused, moves, stop, place, *after, totals = ran
+    return stop, worked(lent, [done, refused, moves, place], totals=totals, **left(*after))
 
 
-CHANGES = dict(insert=model.insert, delete=model.delete)
-WORK = dict(make=make, check=check, lookup=lookup, insert=change, delete=change, scan=scan, run=run, over=run)
+WORK = dict(make=make, check=check, lookup=lookup, insert=insert, delete=delete, scan=scan, run=run, over=run)
 
 
 def outcome(lent):

@@ -22,9 +22,9 @@ struct reply {
     uint64_t stop;
 };
 
-struct reply ff_run_over(uint64_t profile, uint64_t *list, size_t list_length, size_t *table, size_t table_length,
-                         struct forecast forecast, const uint8_t *requests, size_t requests_length, uint64_t allowance,
-                         struct totals *totals);
+struct reply ff_run_over(uint64_t profile, uint64_t *list, size_t list_length, uint32_t *cards, size_t cards_length, size_t *table,
+                         size_t table_length, struct forecast forecast, const uint8_t *requests, size_t requests_length,
+                         uint64_t allowance, struct totals *totals);
 
 /* Whether the words of a forecast are such as the struct has room for. */
 static int has_room(const uint64_t *words)
@@ -59,12 +59,12 @@ static void to_words(struct forecast forecast, uint64_t *words)
 }
 
 /* As ff_run; the sizes are right. */
-static uint64_t run_over(uint64_t profile, uint64_t *list, size_t list_length, size_t *table, size_t table_length,
-                         uint64_t *forecast, const uint8_t *requests, size_t requests_length, uint64_t allowance,
-                         struct totals *totals, uint64_t *reply)
+static uint64_t run_over(uint64_t profile, uint64_t *list, size_t list_length, uint32_t *cards, size_t cards_length, size_t *table,
+                         size_t table_length, uint64_t *forecast, const uint8_t *requests, size_t requests_length,
+                         uint64_t allowance, struct totals *totals, uint64_t *reply)
 {
-    struct reply done = ff_run_over(profile, list, list_length, table, table_length, from_words(forecast), requests,
-                                    requests_length, allowance, totals);
+    struct reply done = ff_run_over(profile, list, list_length, cards, cards_length, table, table_length, from_words(forecast),
+                                    requests, requests_length, allowance, totals);
 
     to_words(done.forecast, forecast);
     reply[0] = done.worked;

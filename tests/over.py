@@ -4,8 +4,8 @@ from dataclasses import replace
 import records
 import refusals
 
-EPISODES = (records.totals, records.streams, records.allowances, records.stretches, refusals.lists, refusals.forecasts, refusals.tables,
-            refusals.order, refusals.unknown)
+EPISODES = (records.totals, records.streams, records.allowances, records.stretches, refusals.lists, refusals.cards, refusals.forecasts,
+            refusals.tables, refusals.order, refusals.unknown)
 
 
 def has_room(forecast):

@@ -1,5 +1,5 @@
-"""Groups of calls that are refused: damaged lists, tables and forecasts, several faults at once, unknown profiles, and slices of wrong
-sizes."""
+"""Groups of calls that are refused: damaged lists, cards, tables and forecasts, several faults at once, unknown profiles, and slices of
+wrong sizes."""
 from dataclasses import replace
 
 import damage
@@ -7,7 +7,6 @@ import model
 import oracle
 import wire
 from hand import Hand
-from sequences import packed
 from starts import TOP, spread
 
 EVERY = ("check", "lookup", "insert", "delete", "scan", "run")
@@ -35,9 +34,9 @@ def some_number(hand, call):
 
 
 def every_call(hand, calls=EVERY, profiles=(None,)):
-    """Each of the calls once, on the same list, table and forecast while they are refused; by any of these profiles."""
+    """Each of the calls once, on the same list, cards, table and forecast while they are refused; by any of these profiles."""
     for call in hand.rng.sample(calls, len(calls)):
-        records = b"".join(packed(hand.rng.choice(("insert", "delete")), hand.near_key()) for _ in range(3))
+        records = b"".join(hand.packed(hand.rng.choice(("insert", "delete")), hand.near_key()) for _ in range(3))
         yield from hand.call(call, some_number(hand, call), requests=records, room=hand.rng.choice((0, 1, 5)),
                              profile=hand.rng.choice(profiles))
 
@@ -58,6 +57,18 @@ def forecasts(rng, h, n):
     yield from every_call(hand, ("check", "insert", "delete", "run", "scan"))
 
 
+def cards(rng, h, n):
+    """Wrong cards, by every call; then a fault in the order too, which comes before a card in a gap and after a wrong length; then cards
+    to be filled."""
+    hand = Hand(rng, h, keyed)
+    damage.CARDS[(n + h) % len(damage.CARDS)](hand)
+    yield from every_call(hand)
+    rng.choice(damage.ORDER)(hand)
+    yield from every_call(hand, ("check", "insert", "run", "lookup", "scan"))
+    yield from hand.call("make", profile=hand.profile)
+    yield from every_call(hand, ("check", "insert", "scan"))
+
+
 def tables(rng, h, n):
     """A wrong table, by every call; then a fault in the order or the forecast too, which comes first; then a table to be filled."""
     hand = Hand(rng, h, keyed)
@@ -71,16 +82,20 @@ def tables(rng, h, n):
 
 
 def fills(rng, h, n):
-    """Makes with tables of any content, of the right length or not, on lists of the right length or not; then on from there."""
+    """Makes with cards and tables of any content, of the right length or not, on lists of the right length or not; then on from there."""
     hand = Hand(rng, h, keyed)
     hand.table = hand.junk(len(hand.table))
-    if n % 2:
+    if rng.random() < 0.5:
+        damage.everywhere(hand)
+    if n % 4 == 1 or rng.random() < 0.3:
         damage.table_length(hand)
+    if n % 4 == 2:
+        damage.card_length(hand)
     if n % 4 == 3:
         damage.length(hand)
     yield from hand.call("make")
     yield from every_call(hand, ("check", "run", "lookup"))
-    hand.table = hand.junk(model.table_size(h))
+    hand.cards, hand.table = hand.junk_cards(len(hand.list)), hand.junk(model.table_size(h))
     yield from hand.call("make", profile=hand.profile)
     yield from every_call(hand, ("insert", "check", "scan"))
 
@@ -97,7 +112,9 @@ def order(rng, h, n):
         hand.lay(Hand(rng, h, brimful, hand.profile).list)
     if rng.random() < 0.5:
         rng.choice(damage.TABLES)(hand)
-    if rng.random() < 0.5:
+    if rng.random() < 0.4:
+        rng.choice(damage.CARDS)(hand)
+    if rng.random() < 0.4:
         rng.choice(damage.ORDER)(hand)
     if rng.random() < 0.15:
         damage.length(hand)
@@ -110,6 +127,7 @@ def unknown(rng, h, n):
     if n % 2:
         rng.choice(damage.FORECASTS)(hand)
         rng.choice(damage.TABLES)(hand)
+        rng.choice(damage.CARDS)(hand)
         rng.choice(damage.LISTS)(hand)
     yield from every_call(hand, EVERY, model.UNKNOWN)
     yield from every_call(hand, ("check", "lookup", "scan"), model.PROFILES)
@@ -139,13 +157,13 @@ def sizes(rng, h, n):
     """Wrong sizes come before all else, on good lists and on bad ones, by any profile; longer replies are taken."""
     hand = Hand(rng, h, keyed)
     if n % 2:
-        rng.choice(damage.LISTS + damage.TABLES + damage.FORECASTS)(hand)
+        rng.choice(damage.LISTS + damage.CARDS + damage.TABLES + damage.FORECASTS)(hand)
     for call in rng.sample(wire.CALLS, len(wire.CALLS)):
-        lent = hand.lend(call, some_number(hand, call), requests=packed("insert", hand.a_key()), room=3,
+        lent = hand.lend(call, some_number(hand, call), requests=hand.packed("insert", hand.a_key()), room=3,
                          profile=rng.choice((hand.profile, hand.profile, rng.choice(model.UNKNOWN))))
         for name, size in rng.sample(wrong_sizes(call), 2):
             yield resized(hand, lent, name, size)
         yield resized(hand, lent, "reply", oracle.LISTED[call] + rng.randint(1, 9))
 
 
-GROUPS = dict(lists=lists, forecasts=forecasts, tables=tables, fills=fills, order=order, unknown=unknown, sizes=sizes)
+GROUPS = dict(lists=lists, cards=cards, forecasts=forecasts, tables=tables, fills=fills, order=order, unknown=unknown, sizes=sizes)

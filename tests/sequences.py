@@ -4,6 +4,7 @@ Nearly all calls of a sequence name one profile; in the group `turns` the hand's
 """
 import model
 import oracle
+import sums
 from hand import Hand
 from starts import TOP, any_counts, nearly_empty, nearly_full, overfull, thin, underfull
 
@@ -98,13 +99,9 @@ def ends(hand):
 rising, falling, before, behind = stepping(1), stepping(-1), hammering(1), hammering(-1)
 
 
-def packed(kind, key):
-    return model.record(1 + CHANGES.index(kind), key)
-
-
-def take(requests, n):
+def take(hand, requests, n):
     """The next n changes of a mood, as records."""
-    return b"".join(packed(*next(requests)) for _ in range(n))
+    return b"".join(hand.packed(*next(requests)) for _ in range(n))
 
 
 def mixed(hand, requests, length=LENGTH):
@@ -114,7 +111,7 @@ def mixed(hand, requests, length=LENGTH):
         if way < 0.2:
             yield from hand.look()
         elif way < 0.25:
-            yield from hand.call("run", TOP, requests=take(requests, hand.rng.randint(1, 9)))
+            yield from hand.call("run", TOP, requests=take(hand, requests, hand.rng.randint(1, 9)))
         else:
             kind, key = next(requests)
             yield from hand.call(kind, key)
@@ -133,7 +130,7 @@ def made(rng, h, n):
     hand = Hand(rng, h)
     yield from hand.call("make")
     mood = rng.choice((rising, falling, behind, before, anywhere))(hand)
-    yield from hand.call("run", TOP, requests=take(mood, rng.randint(52, 64)))
+    yield from hand.call("run", TOP, requests=take(hand, mood, rng.randint(52, 64)))
     yield from mixed(hand, mood)
 
 
@@ -141,7 +138,7 @@ def bulk(rng, h, n):
     """Stretches of inserts, then of deletes, each in one run."""
     hand = Hand(rng, h, (overfull, any_counts)[n % 2])
     for mood in (rising, behind, storm, before, falling, storm):
-        yield from hand.call("run", TOP, requests=take(mood(hand), rng.randint(10, 40) * (4 - h // 2)))
+        yield from hand.call("run", TOP, requests=take(hand, mood(hand), rng.randint(10, 40) * (4 - h // 2)))
         yield from hand.look()
         hand.focus = hand.one_live()
 
@@ -169,10 +166,10 @@ def turns(rng, h, n):
 def computed(rng, h, n):
     """The sums of profile 2, which are of height 1, then on from there."""
     hand = Hand(rng, 1, profile=2)
-    sizes, (call, key), _ = model.SECOND[n % len(model.SECOND)]
-    hand.lay(model.list_with(*sizes, step=10))
+    sizes, (call, key, *card), _ = sums.SECOND[n % len(sums.SECOND)]
+    hand.lay(sums.list_with(*sizes, step=10))
     hand.forecast = oracle.words(model.as_forecast([]))
-    yield from hand.call(call.__name__, key, profile=2)
+    yield from hand.call(call.__name__, key, profile=2, card=sum(card))
     yield from mixed(hand, rng.choice((rising, behind, storm, anywhere))(hand), 8)
 
 

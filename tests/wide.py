@@ -1,5 +1,5 @@
-"""Calls that are lent a forecast with one word far too great for its place, or a table with one wrong count: every place, by every call
-that reads it.
+"""Calls that are lent a forecast with one word far too great for its place, a table with one wrong count, or a card in one gap: every
+place, by every call that reads it. (Of gaps: every place of a segment, and every segment.)
 
 A word that is cut to fewer bits, or kept at their greatest number, may look right: so the numbers are those that a byte or a word of 32
 bits would take for the right one, and the ends of these.
@@ -11,8 +11,7 @@ import model
 import oracle
 from hand import Hand
 from refusals import EVERY, keyed
-from sequences import packed
-from starts import TOP, some_forecast
+from starts import TOP, some_forecast, spread
 
 READING = ("check", "insert", "delete", "run")      # a forecast
 STATES = 2          # all cells used that may be, or fewer
@@ -27,7 +26,7 @@ def values(right):
 def asked(hand, call):
     """A call that would be done, but for the one word."""
     number = dict(insert=hand.a_key(), delete=hand.one_live(), run=TOP, lookup=hand.one_live()).get(call, 0)
-    records = packed("insert", hand.a_key()) + packed("delete", hand.one_live())
+    records = hand.packed("insert", hand.a_key()) + hand.packed("delete", hand.one_live())
     return hand.lend(call, number, requests=records, room=3, profile=hand.profile)
 
 
@@ -48,7 +47,7 @@ def one_place(rng, h, n):
     yield with_word(hand.lend("make"), place, rng.choice(others))
     lent = asked(hand, rng.choice(READING))
     rng.choice(damage.LISTS)(hand)
-    yield with_word(replace(lent, list=hand.list), place, rng.choice(others))
+    yield with_word(replace(lent, list=hand.list, cards=hand.cards), place, rng.choice(others))
 
 
 def one_entry(rng, h, n):
@@ -70,6 +69,33 @@ def one_entry(rng, h, n):
     yield asked(hand, "make")
 
 
+def with_few(segment, most):
+    """Counts with at most so many keys in this segment, often just so many."""
+    def counts(rng, profile, h):
+        few = rng.choice((most, rng.randint(0, most)))
+        counts = spread(rng, rng.randint(0, model.most_keys(profile, h) - few), 2 ** h)
+        return counts[:segment] + [few] + counts[segment + 1:], None
+    return counts
+
+
+def gap_at(rng, h, n):
+    """A place and a segment: first each place of some segment, then some place of each segment, then the ends of the list."""
+    last, segments = model.SEGMENT - 1, 2 ** h
+    if n <= last:
+        return n, rng.randrange(segments)
+    if n <= last + segments:
+        return rng.randint(0, last), n - model.SEGMENT
+    return ((0, 0), (last, segments - 1))[n % 2]
+
+
+def one_gap(rng, h, n):
+    """A card in one gap; the keys before it often end there."""
+    place, segment = gap_at(rng, h, n)
+    hand = Hand(rng, h, with_few(segment, place))
+    for value, call in zip(rng.sample(damage.STRAYS, len(EVERY)), EVERY):
+        yield with_word(asked(hand, call), model.SEGMENT * segment + place, value, "cards")
+
+
 PLACES = STATES * oracle.FORECAST
-EPISODES = dict(wide=lambda h: PLACES, entries=model.table_size)
-GROUPS = dict(wide=one_place, entries=one_entry)
+EPISODES = dict(wide=lambda h: PLACES, entries=model.table_size, gaps=lambda h: model.SEGMENT + 2 ** h + 2)
+GROUPS = dict(wide=one_place, entries=one_entry, gaps=one_gap)

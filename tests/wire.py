@@ -10,23 +10,26 @@ HERE = os.path.dirname(os.path.abspath(__file__))
 
 CALLS = ("make", "check", "lookup", "insert", "delete", "scan", "run")
 ASKED = CALLS + ("over",)       # over: a run, by the function over lent totals
-SLICES = ("list", "table", "forecast", "requests", "totals", "output", "reply")
-KIND = dict(list="Q", table="Q", forecast="Q", requests="B", totals="I", output="Q", reply="Q")
+SLICES = ("list", "cards", "table", "forecast", "requests", "totals", "output", "output_cards", "reply")
+KIND = dict(list="Q", cards="I", table="Q", forecast="Q", requests="B", totals="I", output="Q", output_cards="I", reply="Q")
 GUARD = bytes(range(0xC0, 0xE0))
 
 
 @dataclass
 class Lent:
-    """A call, the profile it names and everything it is lent. number: the key, where a scan begins, or the allowance."""
+    """A call, the profile it names and everything it is lent. number: the key, where a scan begins, or the allowance; card: an insert's."""
     call: str
     profile: int = 1
     number: int = 0
+    card: int = 0
     list: Sequence = ()
+    cards: Sequence = ()
     table: Sequence = ()
     forecast: Sequence = ()
     requests: bytes = b""
     totals: Sequence = ()
     output: Sequence = ()
+    output_cards: Sequence = ()
     reply: Sequence = ()
 
     def slices(self):
@@ -43,7 +46,7 @@ def lengths(lent):
 
 
 def question(lent):
-    head = [ASKED.index(lent.call) + 1, lent.profile, lent.number] + lengths(lent)
+    head = [ASKED.index(lent.call) + 1, lent.profile, lent.number, lent.card] + lengths(lent)
     return struct.pack("<%dQ" % len(head), *head) + b"".join(contents(lent))
 
 

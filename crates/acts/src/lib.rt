@@ -1,6 +1,7 @@
-// One function acts on what a request comes to, for both kinds.
+// What a request comes to, acted on, for both kinds: noted in the forecast, and the key shifted in or out, or its window swept.
 ghost use mathlib.Core.Path.{_≡_};
-ghost use mathlib.Core.List.{List};
+ghost use mathlib.Core.Bool.{true};
+ghost use mathlib.Core.List.{List, map};
 ghost use Prim.Native.Nat.{ℕ, _≤_};
 ghost use lib.ListN.{length};
 ghost use Rattle.forecast.specs.Cells.{forecastOf};
@@ -21,11 +22,20 @@ pub fn note(forecast: Forecast, shape: Shape, aim: Aim) -> Forecast
     forecast.drop_marker(aim.key)
 }
 
-// A key put in or taken out within its segment.
-fn shift(list: &mut [u64], table: &mut [usize], bounds: &mut [u64], aim: Aim)
+// A key put in, with its card, or taken out within its segment.
+pub fn shift(
+    list: &mut [u64],
+    cards: &mut [u32],
+    table: &mut [usize],
+    bounds: &mut [u64],
+    aim: Aim,
+    card: u32,
+)
     requires { ⌜ ((F : Forecast) × (shape : Shape) × Acting (now list) F (now bounds) (now table) shape aim) ⌝ }
     requires { ⌜ aim .level ≡ 0 ⌝ }
-    ensures { λ _. ⌜ ((F : Forecast) (shape : Shape) → Acting (now (list .entry)) F (now (bounds .entry)) (now (table .entry)) shape aim → Left (outcomeOf (now (list .entry)) F shape aim) (now (list .exit)) (now (bounds .exit)) (now (table .exit))) ⌝ }
+    requires { ⌜ length (now cards) ≡ length (now list) ⌝ }
+    ensures left { λ _. ⌜ ((F : Forecast) (shape : Shape) → Acting (now (list .entry)) F (now (bounds .entry)) (now (table .entry)) shape aim → Left (outcomeOf (now (list .entry)) F shape aim) (now (list .exit)) (now (bounds .exit)) (now (table .exit))) ⌝ }
+    ensures cards { λ _. ⌜ ((f : ℕ → ℕ) → f 0 ≡ 0 → (aim .grows ≡ true → f (aim .key) ≡ card) → now (cards .entry) ≡ map f (now (list .entry)) → now (cards .exit) ≡ map f (now (list .exit))) ⌝ }
 {
     let place = Place {
         segment: aim.segment,
@@ -34,33 +44,33 @@ fn shift(list: &mut [u64], table: &mut [usize], bounds: &mut [u64], aim: Aim)
         present: !aim.grows,
     };
     if aim.grows {
-        shifts::put_in(list, table, place, aim.key);
+        shifts::put_in(list, cards, table, place, aim.key, card);
         return;
     }
-    shifts::cut_out(list, table, bounds, place, aim.key);
+    shifts::cut_out(list, cards, table, bounds, place, aim.key);
 }
 
-// The list as an accepted request leaves it: the key put in or taken out within its segment, or its window planned and then swept. `noted`
-// is the forecast with the request noted.
-pub fn act(
+// The window planned and then swept; each key keeps its card, and `card` is that of a key put in. `noted` is the forecast with the request
+// noted.
+pub fn sweep(
     list: &mut [u64],
+    cards: &mut [u32],
     table: &mut [usize],
     bounds: &mut [u64],
     plan: &mut [usize],
     noted: Forecast,
     shape: Shape,
     aim: Aim,
+    card: u32,
 )
     requires { ⌜ ((F : Forecast) × Acting (now list) F (now bounds) (now table) shape aim × Noted (now list) F shape aim noted) × (length (now plan) ≡ 64) ⌝ }
+    requires { ⌜ (1 ≤ aim .level) × (length (now cards) ≡ length (now list)) ⌝ }
     ensures range { λ _. ⌜ length (now (plan .exit)) ≡ length (now (plan .entry)) ⌝ }
     ensures left { λ _. ⌜ ((F : Forecast) → Acting (now (list .entry)) F (now (bounds .entry)) (now (table .entry)) shape aim → Noted (now (list .entry)) F shape aim noted → Left (outcomeOf (now (list .entry)) F shape aim) (now (list .exit)) (now (bounds .exit)) (now (table .exit))) ⌝ }
+    ensures cards { λ _. ⌜ ((f : ℕ → ℕ) → f 0 ≡ 0 → (aim .grows ≡ true → f (aim .key) ≡ card) → now (cards .entry) ≡ map f (now (list .entry)) → now (cards .exit) ≡ map f (now (list .exit))) ⌝ }
 {
-    if aim.level == 0 {
-        shift(list, table, bounds, aim);
-        return;
-    }
     sweeps::plan_sweep(list, table, plan, noted, shape, aim);
-    sweeps::sweep(list, table, bounds, plan, aim);
+    sweeps::sweep(list, cards, table, bounds, plan, aim, card);
 }
 
 // After a sweep, each cell of the swept window names its marker's segment.

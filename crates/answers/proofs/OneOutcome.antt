@@ -28,18 +28,20 @@ check-one profile L F r r′ a b = check-told r r′ (a .answer ∙ sym (b .answ
 pub lookup-one : (profile : ℕ) (L : Lent) (y : ℕ) (r r′ : LookupAnswer) → LookupAdmits profile L y r → LookupAdmits profile L y r′ → r ≡ r′
 lookup-one profile L y r r′ a b = lookup-told r r′ (a .answer ∙ sym (b .answer))
 
--- scan: the answer and the output left
-pub scan-one : (profile : ℕ) (L : Lent) (a : ℕ) (out : List ℕ) (r r′ : ScanAnswer) (left left′ : List ℕ) → ScanAdmits profile L a out r left → ScanAdmits profile L a out r′ left′ → (r ≡ r′) × (left ≡ left′)
-scan-one profile L a out r r′ left left′ p q = (
+-- scan: the answer and the two outputs left
+pub scan-one : (profile : ℕ) (L : Lent) (a : ℕ) (out cards : List ℕ) (r r′ : ScanAnswer) (left left′ left-cards left-cards′ : List ℕ)
+    → ScanAdmits profile L a out cards r left left-cards → ScanAdmits profile L a out cards r′ left′ left-cards′ → (r ≡ r′) × (left ≡ left′) × (left-cards ≡ left-cards′)
+scan-one profile L a out cards r r′ left left′ left-cards left-cards′ p q = (
   scan-told r r′
       (λ i. record { number = (p .number ∙ sym (q .number)) i; written = (p .written ∙ sym (q .written)) i; more = (p .more ∙ sym (q .more)) i }),
   p .output ∙ sym (q .output),
+  p .cards-output ∙ sym (q .cards-output),
 )
 
 -- insert: the reply and what is left of what was lent
-pub insert-one : (profile : ℕ) (L : Lent) (F : Forecast) (y : ℕ) (r r′ : InsertReply) (left left′ : Lent) → InsertAdmits profile L F y r left → InsertAdmits profile L F y r′ left′
+pub insert-one : (profile : ℕ) (L : Lent) (F : Forecast) (y v : ℕ) (r r′ : InsertReply) (left left′ : Lent) → InsertAdmits profile L F y v r left → InsertAdmits profile L F y v r′ left′
     → (r ≡ r′) × (left ≡ left′)
-insert-one profile L F y r r′ left left′ a b = (
+insert-one profile L F y v r r′ left left′ a b = (
   λ i. record { forecast = (a .forecast ∙ sym (b .forecast)) i; answer = insert-told (r .answer) (r′ .answer) (a .answer ∙ sym (b .answer)) i },
   a .lent-left ∙ sym (b .lent-left),
 )

@@ -51,11 +51,11 @@ check-told = told checkNumber (λ n. n) checkOf check-back
 -- LOOKUP
 abbrev lookupOf : Verdict → Found → LookupAnswer
 lookupOf (Refused x) f = LookupAnswer.Refused x
-lookupOf Accepted f = if f .present then LookupAnswer.Present (f .segment) else LookupAnswer.Absent
+lookupOf Accepted f = if f .present then LookupAnswer.Present (f .segment) (f .card) else LookupAnswer.Absent
 
 lookup-back : (a : LookupAnswer) → Back lookupPaper (λ f. f .number) lookupOf a
 lookup-back (LookupAnswer.Refused x) = (Refused x, refl, refl)
-lookup-back (LookupAnswer.Present s) = (Accepted, refl, refl)
+lookup-back (LookupAnswer.Present s v) = (Accepted, refl, refl)
 lookup-back LookupAnswer.Absent = (Accepted, refl, refl)
 
 pub lookup-told : (a b : LookupAnswer) → lookupPaper a ≡ lookupPaper b → a ≡ b

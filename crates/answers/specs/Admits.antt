@@ -14,7 +14,7 @@ use Rattle.answers.specs.declared.InsertReply.{InsertReply}
 use Rattle.answers.specs.declared.DeleteReply.{DeleteReply}
 use Rattle.answers.specs.Answers.{makeNumber, checkNumber, lookupPaper, scanPaper, insertPaper, deletePaper}
 
--- make: the profile's number, what is lent (slots and table), the reply, and what is left of it
+-- make: the profile's number, what is lent (slots, cards and table), the reply, and what is left of it
 pub record MakeAdmits (profile : ℕ) (L : Lent) (r : MakeReply) (left : Lent) : Type 0 where
   pub answer : makeNumber (r .answer) ≡ rules.make profile L .number
   pub forecast : r .forecast ≡ rules.make profile L .forecast
@@ -26,16 +26,19 @@ pub record CheckAdmits (profile : ℕ) (L : Lent) (F : Forecast) (r : CheckAnswe
 pub record LookupAdmits (profile : ℕ) (L : Lent) (y : ℕ) (r : LookupAnswer) : Type 0 where
   pub answer : lookupPaper r ≡ rules.lookup profile L y
 
-pub record ScanAdmits (profile : ℕ) (L : Lent) (a : ℕ) (out : List ℕ) (r : ScanAnswer) (left : List ℕ) : Type 0 where
-  pub number : scanPaper r .number ≡ rules.scan profile L a out .number
-  pub written : scanPaper r .written ≡ rules.scan profile L a out .written
-  pub more : scanPaper r .more ≡ rules.scan profile L a out .more
-  pub output : left ≡ rules.scan profile L a out .output
+-- scan: a is the key to scan from; what is left of the two outputs
+pub record ScanAdmits (profile : ℕ) (L : Lent) (a : ℕ) (out cards : List ℕ) (r : ScanAnswer) (left left-cards : List ℕ) : Type 0 where
+  pub number : scanPaper r .number ≡ rules.scan profile L a out cards .number
+  pub written : scanPaper r .written ≡ rules.scan profile L a out cards .written
+  pub more : scanPaper r .more ≡ rules.scan profile L a out cards .more
+  pub output : left ≡ rules.scan profile L a out cards .output
+  pub cards-output : left-cards ≡ rules.scan profile L a out cards .cards
 
-pub record InsertAdmits (profile : ℕ) (L : Lent) (F : Forecast) (y : ℕ) (r : InsertReply) (left : Lent) : Type 0 where
-  pub answer : insertPaper (r .answer) ≡ rules.insert profile L F y .answer
-  pub forecast : r .forecast ≡ rules.insert profile L F y .forecast
-  pub lent-left : left ≡ rules.insert profile L F y .lent
+-- insert: the key, and the card that comes with it
+pub record InsertAdmits (profile : ℕ) (L : Lent) (F : Forecast) (y v : ℕ) (r : InsertReply) (left : Lent) : Type 0 where
+  pub answer : insertPaper (r .answer) ≡ rules.insert profile L F y v .answer
+  pub forecast : r .forecast ≡ rules.insert profile L F y v .forecast
+  pub lent-left : left ≡ rules.insert profile L F y v .lent
 
 pub record DeleteAdmits (profile : ℕ) (L : Lent) (F : Forecast) (y : ℕ) (r : DeleteReply) (left : Lent) : Type 0 where
   pub answer : deletePaper (r .answer) ≡ rules.delete profile L F y .answer

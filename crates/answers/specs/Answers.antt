@@ -21,7 +21,7 @@ checkNumber CheckAnswer.Passed = 0
 
 abbrev pub lookupPaper : LookupAnswer → Found
 lookupPaper (LookupAnswer.Refused x) = notFound (refusalNumber x)
-lookupPaper (LookupAnswer.Present s) = record { number = 0; present = true; segment = s }
+lookupPaper (LookupAnswer.Present s v) = record { number = 0; present = true; segment = s; card = v }
 lookupPaper LookupAnswer.Absent = notFound 0
 
 -- a scan's number, how many keys are written, and whether more remain

@@ -18,14 +18,14 @@ pub enum CheckAnswer {
     Passed,
 }
 
-// Present, with the segment.
+// Present, with the segment and the card.
 pub enum LookupAnswer {
     Refused(Refusal),
-    Present(usize),
+    Present(usize, u32),
     Absent,
 }
 
-// With the number of keys written.
+// With the number of keys written, each with its card.
 pub enum ScanAnswer {
     Refused(Refusal),
     Ended(usize),

@@ -1,5 +1,5 @@
 -- A single insert or delete is what the check refuses, or what a run of its one record comes to.
-use mathlib.Core.Path.{_≡_, refl, sym, ap, _∙_}
+use mathlib.Core.Path.{_≡_, refl, sym, ap, ap₂, _∙_}
 use mathlib.Core.Bool.{Bool, true, false, not, _&&_}
 use mathlib.Core.Logic.{_≢_}
 use mathlib.Core.List.{List, [], _∷_}
@@ -23,10 +23,12 @@ use Rattle.rules.specs.Refusals.{verdictNumber}
 use Rattle.rules.specs.Profiles.{profileOf}
 use Rattle.rules.specs.Shares.{Shares, capacity, sparseBelow}
 use Rattle.rules.specs.Placing.{Room, Answer, Outcome, insertKey, deleteKey, outcome}
-use Rattle.rules.specs.Lent.{Lent}
+use Rattle.rules.specs.Cards.{cardsBeside, cardsAfter}
+use Rattle.rules.specs.Lent.{Lent, cardsOf}
 use Rattle.rules.specs.Checks.{sharesOf, checkBoth, check}
 use Rattle.rules.specs.Calls.{roomOf, Called, unchanged, request}
-use Rattle.rules.specs.Runs.{recordsOf}
+use Rattle.rules.specs.Runs.{asking, recordsOf}
+use Rattle.rules.specs.Demand2.{AsRuled}
 use Rattle.rules.proofs.Refusals.Told.{refusal-some}
 use Rattle.rules.proofs.Sweeping.Settled.{keys-settled}
 use Rattle.rules.proofs.Requests.Accepted.{settled-sparse, Deletes, delete-accepted, refused-is}
@@ -35,7 +37,7 @@ use Rattle.rules.proofs.Requests.MoveBound.{moves-bound}
 use Rattle.rules.proofs.Requests.Tabled.{room-passes}
 use Rattle.rules.proofs.Requests.SingleCalls.{lentOutcome, request-unchecked}
 use Rattle.rules.proofs.Demand2.Ruled.{request-ruled}
-use Rattle.records.specs.Asked.{asked}
+use Rattle.records.specs.Asked.{asked, sizeFor, cardFor}
 use Rattle.records.proofs.Single.{SingleRun, single-run}
 use Rattle.steps.specs.declared.Worked.{Worked}
 use Rattle.tallies.specs.Counted.{isAccepted}
@@ -85,12 +87,18 @@ not-accepted Accepted n = absurd (n refl)
 abbrev replyOf : Worked → Bool → Reply
 replyOf r s = record { forecast = r .forecast; verdict = r .last; moves = r .tally .moves; sparse = s }
 
-module _ (profile : ℕ) (b : Bool) (y : ℕ) (L : Lent) (F : Forecast) (bytes : List ℕ) (allowance : ℕ) (r : Worked) (rest : Lent) (s : Bool)
+-- a delete has no card to come with it
+request-card : (profile : ℕ) (b : Bool) (y v : ℕ) (L : Lent) (F : Forecast) → request profile (asked b y) (cardFor b v) L F ≡ request profile (asked b y) v L F
+unfolding request
+request-card profile true y v L F = refl
+request-card profile false y v L F = refl
+
+module _ (profile : ℕ) (b : Bool) (y v : ℕ) (L : Lent) (F : Forecast) (bytes : List ℕ) (allowance : ℕ) (r : Worked) (rest : Lent) (s : Bool)
     (t : TellsSparse profile b (r .last) (r .keys) (length (L .slots)) s) where
   -- WHAT THE CHECK REFUSES
-  requested-refused : check profile L F ≢ 0 → Refuses profile L F r rest → Requested profile (asked b y) L F (replyOf r s) rest
+  requested-refused : check profile L F ≢ 0 → Refuses profile L F r rest → Requested profile (asked b y) v L F (replyOf r s) rest
   requested-refused n w =
-      let u : request profile (asked b y) L F ≡ unchanged L F (check profile L F) = request-unchecked profile (asked b y) L F n in
+      let u : request profile (asked b y) v L F ≡ unchanged L F (check profile L F) = request-unchecked profile (asked b y) v L F n in
       let p : s ≡ false = t .refused (not-accepted (r .last) (λ z. n (sym (w .last) ∙ z))) in
       record {
         answer = _∙_ {A = Answer} (λ i. record { number = w .last i; moves = w .tally i .moves; sparse = p i }) (sym (ap (λ (d : Called). d .answer) u));
@@ -99,8 +107,8 @@ module _ (profile : ℕ) (b : Bool) (y : ℕ) (L : Lent) (F : Forecast) (bytes :
       }
 
   -- WHAT IT PASSES: a run of one record, with any allowance from 4096 on
-  module _ (one : recordsOf bytes ≡ asked b y ∷ []) (big : 4096 ≤ allowance) (h : Roomy F) where
-    module _ (e : check profile L F ≡ 0) (w : Ends profile (L .slots) F bytes allowance r (rest .slots) (rest .table)) where
+  module _ (one : recordsOf bytes ≡ asking (asked b y) (cardFor b v) (sizeFor b) ∷ []) (big : 4096 ≤ allowance) (h : Roomy F) where
+    module _ (e : check profile L F ≡ 0) (w : Ends profile (L .slots) (cardsOf L) F bytes allowance r rest) where
       abbrev S : Shares
       S = sharesOf profile (L .slots)
 
@@ -115,11 +123,11 @@ module _ (profile : ℕ) (b : Bool) (y : ℕ) (L : Lent) (F : Forecast) (bytes :
           let c = checked profile (L .slots) F room in
           omega (arith, moves-bound (profileOf profile) (heightOf (length (L .slots))) (c .0) (c .1) (asked b y) (roomOf (L .slots) F) (c .2))
 
-      single : SingleRun S (asked b y) (roomOf (L .slots) F) (whole profile (L .slots) F bytes allowance)
-      single = single-run S allowance bytes (roomOf (L .slots) F) b y one small
+      single : SingleRun S (asked b y) (cardFor b v) (roomOf (L .slots) F) (cardsOf L) (whole profile (L .slots) (cardsOf L) F bytes allowance)
+      single = single-run S allowance bytes (roomOf (L .slots) F) (cardsOf L) b y (cardFor b v) (sizeFor b) one small
 
       number : verdictNumber (r .last) ≡ o .answer .number
-      number = w .single (asked b y) one (single .stop)
+      number = w .single (asking (asked b y) (cardFor b v) (sizeFor b)) one (single .stop)
 
       sparse : s ≡ o .answer .sparse
       sparse =
@@ -127,19 +135,36 @@ module _ (profile : ℕ) (b : Bool) (y : ℕ) (L : Lent) (F : Forecast) (bytes :
           ∙ ap {B = Bool} (λ n. not b && isAccepted (r .last) && ltb n (sparseBelow S)) (w .keys ∙ ap (λ (R : Room). length (keys (R .segments))) (single .room))
           ∙ sparse-is S b y (roomOf (L .slots) F) (r .last) number
 
-      requested-done : Requested profile (asked b y) L F (replyOf r s) rest
+      abbrev c : Called
+      c = request profile (asked b y) (cardFor b v) L F
+
+      a : AsRuled S (cardsAfter o (asked b y) (cardFor b v) (cardsOf L)) c o
+      a = request-ruled profile (asked b y) (cardFor b v) L F h e
+
+      slots : rest .slots ≡ c .lent .slots
+      slots = w .slots-left ∙ ap (λ (R : Room). render 0 (R .segments)) (single .room) ∙ sym (a .slots)
+
+      cards : rest .cards ≡ c .lent .cards
+      cards =
+          w .cards-left
+          ∙ ap₂ {C = List ℕ} cardsBeside (single .cards) (w .slots-left ∙ ap (λ (R : Room). render 0 (R .segments)) (single .room))
+          ∙ sym (a .cards)
+
+      table : rest .table ≡ c .lent .table
+      table = w .table-left ∙ ap (λ (R : Room). tableOf (heightOf (length (L .slots))) (R .segments)) (single .room) ∙ sym (a .table)
+
+      requested-done : Requested profile (asked b y) v L F (replyOf r s) rest
       requested-done =
-          let a = request-ruled profile (asked b y) L F h e in
-          let slots : rest .slots ≡ request profile (asked b y) L F .lent .slots = w .slots-left ∙ ap (λ (R : Room). render 0 (R .segments)) (single .room) ∙ sym (a .slots) in
-          let table : rest .table ≡ request profile (asked b y) L F .lent .table = w .table-left ∙ ap (λ (R : Room). tableOf (heightOf (length (L .slots))) (R .segments)) (single .room) ∙ sym (a .table) in
+          let same : c ≡ request profile (asked b y) v L F = request-card profile b y v L F in
           record {
-            answer = _∙_ {A = Answer} (λ i. record { number = number i; moves = (ap (λ (t : Tally). t .moves) (w .tally) ∙ single .moves) i; sparse = sparse i }) (sym (a .answer));
-            forecast = w .forecast ∙ ap (λ (R : Room). forecastOf (R .cells)) (single .room) ∙ sym (a .forecast);
-            lent-left = λ i. record { slots = slots i; table = table i };
+            answer = _∙_ {A = Answer} (λ i. record { number = number i; moves = (ap (λ (t : Tally). t .moves) (w .tally) ∙ single .moves) i; sparse = sparse i })
+                (sym (a .answer) ∙ ap (λ (d : Called). d .answer) same);
+            forecast = w .forecast ∙ ap (λ (R : Room). forecastOf (R .cells)) (single .room) ∙ sym (a .forecast) ∙ ap (λ (d : Called). d .forecast) same;
+            lent-left = _∙_ {A = Lent} (λ i. record { slots = slots i; cards = cards i; table = table i }) (ap (λ (d : Called). d .lent) same);
           }
 
     -- EITHER
-    pub requested : Opens profile L F bytes allowance r rest → Requested profile (asked b y) L F (replyOf r s) rest
+    pub requested : Opens profile L F bytes allowance r rest → Requested profile (asked b y) v L F (replyOf r s) rest
     requested o =
         elim (decLt 0 (check profile L F)) [
           | yes p ↦ (let n : check profile L F ≢ 0 = omega arith in requested-refused n (o .refused n))

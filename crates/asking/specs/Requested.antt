@@ -25,7 +25,8 @@ pub record TellsSparse (profile : ℕ) (grows : Bool) (v : Verdict) (keys long :
 abbrev pub answerOf : Reply → Answer
 answerOf r = record { number = verdictNumber (r .verdict); moves = r .moves; sparse = r .sparse }
 
-pub record Requested (profile : ℕ) (q : Request) (L : Lent) (F : Forecast) (r : Reply) (left : Lent) : Type 0 where
-  pub answer : answerOf r ≡ rules.request profile q L F .answer
-  pub forecast : r .forecast ≡ rules.request profile q L F .forecast
-  pub lent-left : left ≡ rules.request profile q L F .lent
+-- v is the card that comes with the request
+pub record Requested (profile : ℕ) (q : Request) (v : ℕ) (L : Lent) (F : Forecast) (r : Reply) (left : Lent) : Type 0 where
+  pub answer : answerOf r ≡ rules.request profile q v L F .answer
+  pub forecast : r .forecast ≡ rules.request profile q v L F .forecast
+  pub lent-left : left ≡ rules.request profile q v L F .lent

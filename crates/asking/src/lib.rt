@@ -31,19 +31,30 @@ fn is_sparse(profile: u64, grows: bool, verdict: Verdict, keys: usize, long: usi
     keys < shape.floor
 }
 
-// The request's record is worked with an allowance that it cannot pass.
+// The request's record is worked with an allowance that it cannot pass. `card` is that of a key put in.
 pub fn ask(
     profile: u64,
     list: &mut [u64],
+    cards: &mut [u32],
     table: &mut [usize],
     forecast: Forecast,
     grows: bool,
     key: u64,
+    card: u32,
 ) -> Reply
-    ensures { λ r. ⌜ Requested profile (asked grows key) (lend (now (list .entry)) (now (table .entry))) forecast r (lend (now (list .exit)) (now (table .exit))) ⌝ }
+    ensures { λ r. ⌜ Requested profile (asked grows key) card (lend (now (list .entry)) (now (cards .entry)) (now (table .entry))) forecast r (lend (now (list .exit)) (now (cards .exit)) (now (table .exit))) ⌝ }
 {
-    let bytes = records::record_of(grows, key);
-    let worked = opening::work_lent(profile, list, table, forecast, &bytes, 18446744073709551615);
+    let bytes = records::bytes_of(grows, key, card);
+    let n = records::size_of(grows);
+    let worked = opening::work_lent(
+        profile,
+        list,
+        cards,
+        table,
+        forecast,
+        &bytes[..n],
+        18446744073709551615,
+    );
     let after = worked.forecast;
     let tally = worked.tally;
     let last = worked.last;

@@ -6,10 +6,8 @@ use mathlib.Core.List.{List}
 use Prim.Native.Nat.{ℕ}
 use native.Mathlib.Omega.{arith}
 use lib.ListN.{length}
-use Rattle.slots.specs.Segments.{segmentsOf}
 use Rattle.slots.specs.Orders.{orderOf, isKept}
 use Rattle.slots.specs.Shown.{Tallied}
-use Rattle.slots.proofs.Tables.{counts-front}
 use Rattle.rules.specs.declared.Profile.{Profile}
 use Rattle.rules.specs.Shares.{Shares, shares}
 use Rattle.rules.specs.declared.Refusal.{Refusal}
@@ -21,6 +19,7 @@ use Rattle.shares.specs.declared.Shape.{Shape}
 use Rattle.shares.specs.Rows.{sharesAt, Fetched}
 use Rattle.checks.specs.declared.Listing.{Listing}
 use Rattle.checks.specs.Listings.{refusing, Looked, Counting}
+use Rattle.checks.proofs.Kept.{counts-kept}
 
 -- A VERDICT that refuses has some number
 pub refused-some : (v : Verdict) (x : Refusal) → v ≡ Refused x → verdictNumber v ≢ 0
@@ -46,4 +45,4 @@ module _ (profile : ℕ) (slots : List ℕ) (x : Refusal) (r : Listing) (q : r �
 
 -- any listing where the order is kept
 pub counting-kept : (slots counts counts′ : List ℕ) (r : Listing) → length counts ≡ 64 → Tallied slots counts counts′ → isKept (orderOf slots) ≡ true → Counting slots r counts′
-counting-kept slots counts counts′ r l t k = record { long = t .long ∙ l; each = λ a. counts-front (segmentsOf slots) counts′ _ (t .places (rw k tt)) }
+counting-kept slots counts counts′ r l t k = record { long = t .long ∙ l; each = λ a. counts-kept slots counts k counts′ t }

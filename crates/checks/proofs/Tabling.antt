@@ -19,9 +19,10 @@ use Rattle.forecast.specs.declared.Forecast.{Forecast}
 use Rattle.rules.specs.declared.Verdict.the-variants.{Accepted}
 use Rattle.rules.specs.declared.Refusal.the-variants.{WrongTable}
 use Rattle.rules.specs.Refusals.{verdictNumber}
-use Rattle.rules.specs.Lent.{lend, rightTable}
-use Rattle.rules.specs.Checks.{checkList, checkBoth, thenTable, checkRead, check}
-use Rattle.rules.proofs.Requests.Checked.{Passed, passed, proper-segments}
+use Rattle.rules.specs.Lent.{Lent, lend, rightTable}
+use Rattle.rules.specs.Checks.{checkCards, thenForecast, thenTable, checkRead, check, checkList}
+use Rattle.rules.proofs.Requests.Checked.{Passed, passed, proper-segments, forecast-passed}
+use Rattle.rules.proofs.Requests.CardsChecked.{cards-tested}
 use Rattle.rules.proofs.Requests.Tabled.{table-wrong, table-passes}
 use Rattle.checks.specs.declared.Listing.{Listing}
 use Rattle.checks.specs.Listings.{refusing, Looked, ReadLooked, LentLooked, Counting}
@@ -59,29 +60,36 @@ module _
               omega (arith, counting .each a k l, sizes-segments slots (2 ^ heightOf (length slots)) (p .number) (getD (segmentsOf slots) k []) (at-mem (segmentsOf slots) k [] l)),
         )
 
-    -- what it tells
-    module _ (b : Bool) (tells : (h : ℕ) (ss : Segments) → n ≡ 2 ^ h → length ss ≡ n → CountsOf ss counts → Answers (table ≡ tableOf h ss) b) where
+    -- what it tells, whatever the cards
+    module _ (cards : List ℕ) (b : Bool) (tells : (h : ℕ) (ss : Segments) → n ≡ 2 ^ h → length ss ≡ n → CountsOf ss counts → Answers (table ≡ tableOf h ss) b) where
       answers : Answers (table ≡ rightTable slots) b
       answers = tells (heightOf (length slots)) (segmentsOf slots) size many (counting .each a)
 
-      pub right-looked : b ≡ true → Looked profile slots (thenTable m (lend slots table)) r
-      right-looked t = renumbered (thenTable m (lend slots table)) (none ∙ sym (table-passes m (lend slots table) none (answers .yes (rw t tt)))) look
+      pub right-looked : b ≡ true → Looked profile slots (thenTable m (lend slots cards table)) r
+      right-looked t = renumbered (thenTable m (lend slots cards table)) (none ∙ sym (table-passes m (lend slots cards table) none (answers .yes (rw t tt)))) look
 
-      pub wrong-looked : b ≡ false → (w : Listing) → w ≡ refusing WrongTable → Looked profile slots (thenTable m (lend slots table)) w
+      pub wrong-looked : b ≡ false → (w : Listing) → w ≡ refusing WrongTable → Looked profile slots (thenTable m (lend slots cards table)) w
       wrong-looked f w q =
-          looked-refused profile slots WrongTable w q (thenTable m (lend slots table))
-          (table-wrong m (lend slots table) none (differ (same table (rightTable slots)) (same→eq table (rightTable slots))))
+          looked-refused profile slots WrongTable w q (thenTable m (lend slots cards table))
+          (table-wrong m (lend slots cards table) none (differ (same table (rightTable slots)) (same→eq table (rightTable slots))))
         where
           differ : (c : Bool) → (T c → table ≡ rightTable slots) → c ≡ false
           differ false h = refl
           differ true h = absurd (rw f at (answers .no (h tt)))
 
--- AFTER ALL THE TESTS, without a forecast and with one
-pub read-looked : (profile : ℕ) (slots table : List ℕ) (r : Listing) → Looked profile slots (thenTable (checkList profile slots) (lend slots table)) r → ReadLooked profile (lend slots table) r
-unfolding checkRead
-read-looked profile slots table r look = look
+-- AFTER ALL THE TESTS, without a forecast and with one: where the tests before pass, the list does
+module _ (profile : ℕ) (L : Lent) where
+  pub cards-list : checkCards profile L ≡ 0 → checkList profile (L .slots) ≡ 0
+  cards-list e = cards-tested profile L e .0
 
-pub lent-looked : (profile : ℕ) (slots table : List ℕ) (F : Forecast) (r : Listing) → Looked profile slots (thenTable (checkBoth profile slots F) (lend slots table)) r
-    → LentLooked profile (lend slots table) F r
-unfolding check
-lent-looked profile slots table F r look = look
+  pub read-looked : (r : Listing) → Looked profile (L .slots) (thenTable (checkCards profile L) L) r → ReadLooked profile L r
+  unfolding checkRead
+  read-looked r look = look
+
+  module _ (F : Forecast) where
+    pub both-list : thenForecast (checkCards profile L) profile (L .slots) F ≡ 0 → checkList profile (L .slots) ≡ 0
+    both-list e = cards-list (forecast-passed (checkCards profile L) profile (L .slots) F e .0)
+
+    pub lent-looked : (r : Listing) → Looked profile (L .slots) (thenTable (thenForecast (checkCards profile L) profile (L .slots) F) L) r → LentLooked profile L F r
+    unfolding check
+    lent-looked r look = look

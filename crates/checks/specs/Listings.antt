@@ -10,7 +10,7 @@ use Rattle.rules.specs.declared.Verdict.the-variants.{Refused, Accepted}
 use Rattle.rules.specs.Refusals.{verdictNumber}
 use Rattle.rules.specs.Profiles.{numberOf}
 use Rattle.rules.specs.Lent.{Lent}
-use Rattle.rules.specs.Checks.{checkList, checkBoth, checkRead, check}
+use Rattle.rules.specs.Checks.{checkCards, thenForecast, checkRead, check}
 use Rattle.shares.specs.Rows.{sharesAt, blankShape, Fetched}
 use Rattle.checks.specs.declared.Listing.{Listing}
 
@@ -26,12 +26,12 @@ pub record Looked (profile : ℕ) (slots : List ℕ) (n : ℕ) (r : Listing) : T
   pub shape : r .verdict ≡ Accepted → Fetched (sharesAt (r .shape)) (r .shape)
   pub keys : r .verdict ≡ Accepted → r .keys ≡ length (live slots)
 
--- The check of the list alone; of list and forecast; of list and table; of all three.
-abbrev pub ListLooked : ℕ → List ℕ → Listing → Type 0
-ListLooked profile slots r = Looked profile slots (checkList profile slots) r
+-- The check of the list and its cards; with the forecast; with the table; of all four.
+abbrev pub ListLooked : ℕ → Lent → Listing → Type 0
+ListLooked profile L r = Looked profile (L .slots) (checkCards profile L) r
 
-abbrev pub BothLooked : ℕ → List ℕ → Forecast → Listing → Type 0
-BothLooked profile slots F r = Looked profile slots (checkBoth profile slots F) r
+abbrev pub BothLooked : ℕ → Lent → Forecast → Listing → Type 0
+BothLooked profile L F r = Looked profile (L .slots) (thenForecast (checkCards profile L) profile (L .slots) F) r
 
 abbrev pub ReadLooked : ℕ → Lent → Listing → Type 0
 ReadLooked profile L r = Looked profile (L .slots) (checkRead profile L) r

@@ -1,4 +1,4 @@
-// The check of what is lent: refusals 15, 1 to 4 and 14.
+// The check of what is lent: refusals 15, 1, 12, 2, 13, 3, 4 and 14, in this order.
 ghost use mathlib.Core.Path.{_≡_};
 ghost use mathlib.Core.List.{List};
 ghost use Prim.Native.Nat.{ℕ, _/_};
@@ -29,10 +29,11 @@ fn refuse(refusal: Refusal) -> Listing
     }
 }
 
-// Refusals 15 and 1 to 3, of any number for a profile and any slots; where it accepts, the number of keys of each segment is in its place of `counts`.
-fn look_over(profile: u64, list: &[u64], counts: &mut [usize]) -> Listing
+// Refusals 15, 1, 12, 2, 13 and 3, of any number for a profile, any slots and any cards; where it accepts, the number of keys of each
+// segment is in its place of `counts`.
+fn look_over(profile: u64, list: &[u64], cards: &[u32], counts: &mut [usize]) -> Listing
     requires { ⌜ length (now counts) ≡ 64 ⌝ }
-    ensures looked { λ r. ⌜ ListLooked profile (now (list .entry)) r ⌝ }
+    ensures looked { λ r. ⌜ ((table : List ℕ) → ListLooked profile (lend (now (list .entry)) (now (cards .entry)) table) r) ⌝ }
     ensures counts { λ r. ⌜ Counting (now (list .entry)) r (now (counts .exit)) ⌝ }
 {
     if !shares::is_profile(profile) {
@@ -42,10 +43,16 @@ fn look_over(profile: u64, list: &[u64], counts: &mut [usize]) -> Listing
     if height == 0 {
         return refuse(Refusal::WrongLength);
     }
+    if cards.len() != list.len() {
+        return refuse(Refusal::WrongCards);
+    }
     let reading = reading::read_slots(list, counts);
     let order = reading.order;
     if !reading::is_kept(order) {
         return refuse(Refusal::WrongOrder);
+    }
+    if strays::stray(cards, counts, list.len() / 64) {
+        return refuse(Refusal::CardInGap);
     }
     let shape = shares::shape_of(shares::profile_of(profile), height);
     if shape.capacity < reading.keys {
@@ -58,13 +65,19 @@ fn look_over(profile: u64, list: &[u64], counts: &mut [usize]) -> Listing
     }
 }
 
-// Refusals 15 and 1 to 4, with any forecast; the counts as above.
-fn look_over_both(profile: u64, list: &[u64], forecast: Forecast, counts: &mut [usize]) -> Listing
+// The same, then 4, with any forecast; the counts as above.
+fn look_over_both(
+    profile: u64,
+    list: &[u64],
+    cards: &[u32],
+    forecast: Forecast,
+    counts: &mut [usize],
+) -> Listing
     requires { ⌜ length (now counts) ≡ 64 ⌝ }
-    ensures looked { λ r. ⌜ BothLooked profile (now (list .entry)) forecast r ⌝ }
+    ensures looked { λ r. ⌜ ((table : List ℕ) → BothLooked profile (lend (now (list .entry)) (now (cards .entry)) table) forecast r) ⌝ }
     ensures counts { λ r. ⌜ Counting (now (list .entry)) r (now (counts .exit)) ⌝ }
 {
-    let listing = look_over(profile, list, counts);
+    let listing = look_over(profile, list, cards, counts);
     let verdict = listing.verdict;
     if let Verdict::Refused(_) = verdict {
         return listing;
@@ -80,7 +93,7 @@ fn look_over_both(profile: u64, list: &[u64], forecast: Forecast, counts: &mut [
 // Refusal 14, where nothing was found before it: the table of a list of `n` segments, by the counts of its segments.
 fn then_table(listing: Listing, table: &[usize], counts: &[usize], n: usize) -> Listing
     requires { ⌜ ((profile : ℕ) × (slots : List ℕ) × (m : ℕ) × Looked profile slots m listing × (m ≡ 0 → checkList profile slots ≡ 0) × (n ≡ length slots / 64) × Counting slots listing (now counts)) ⌝ }
-    ensures { λ r. ⌜ ((profile : ℕ) (slots : List ℕ) (m : ℕ) → Looked profile slots m listing → (m ≡ 0 → checkList profile slots ≡ 0) → n ≡ length slots / 64 → Counting slots listing (now (counts .entry)) → Looked profile slots (thenTable m (lend slots (now (table .entry)))) r) ⌝ }
+    ensures { λ r. ⌜ ((profile : ℕ) (slots cards : List ℕ) (m : ℕ) → Looked profile slots m listing → (m ≡ 0 → checkList profile slots ≡ 0) → n ≡ length slots / 64 → Counting slots listing (now (counts .entry)) → Looked profile slots (thenTable m (lend slots cards (now (table .entry)))) r) ⌝ }
 {
     let verdict = listing.verdict;
     if let Verdict::Refused(_) = verdict {
@@ -92,20 +105,26 @@ fn then_table(listing: Listing, table: &[usize], counts: &[usize], n: usize) -> 
     refuse(Refusal::WrongTable)
 }
 
-// Where no forecast is lent: refusals 15, 1 to 3 and 14, of any number for a profile, any slots and any table.
-pub fn look_read(profile: u64, list: &[u64], table: &[usize]) -> Listing
-    ensures { λ r. ⌜ ReadLooked profile (lend (now (list .entry)) (now (table .entry))) r ⌝ }
+// Where no forecast is lent: refusals 15, 1, 12, 2, 13, 3 and 14, of any number for a profile, any slots, any cards and any table.
+pub fn look_read(profile: u64, list: &[u64], cards: &[u32], table: &[usize]) -> Listing
+    ensures { λ r. ⌜ ReadLooked profile (lend (now (list .entry)) (now (cards .entry)) (now (table .entry))) r ⌝ }
 {
     let mut counts: [usize; 64] = [0; 64];
-    let listing = look_over(profile, list, &mut counts);
+    let listing = look_over(profile, list, cards, &mut counts);
     then_table(listing, table, &counts, list.len() / 64)
 }
 
-// Refusals 15, 1 to 4 and 14, with any forecast.
-pub fn look_lent(profile: u64, list: &[u64], table: &[usize], forecast: Forecast) -> Listing
-    ensures { λ r. ⌜ LentLooked profile (lend (now (list .entry)) (now (table .entry))) forecast r ⌝ }
+// Refusals 15, 1, 12, 2, 13, 3, 4 and 14, with any forecast.
+pub fn look_lent(
+    profile: u64,
+    list: &[u64],
+    cards: &[u32],
+    table: &[usize],
+    forecast: Forecast,
+) -> Listing
+    ensures { λ r. ⌜ LentLooked profile (lend (now (list .entry)) (now (cards .entry)) (now (table .entry))) forecast r ⌝ }
 {
     let mut counts: [usize; 64] = [0; 64];
-    let listing = look_over_both(profile, list, forecast, &mut counts);
+    let listing = look_over_both(profile, list, cards, forecast, &mut counts);
     then_table(listing, table, &counts, list.len() / 64)
 }

@@ -63,38 +63,38 @@ totals-again (a ∷ b ∷ c ∷ d ∷ e ∷ ws) h = absurd (omega arith)
 -- THE CALLS
 pub make-leaves : MakeLeaves
 unfolding make forecastOf padded cellWords cells
-make-leaves profile list table forecast =
-    leaves (notForecast forecast) _ _ _ (small (makeRows profile (lend list table)) _ tt (below.make-tells profile (lend list table))) λ t n _ _.
-    ap (λ (m : rules.Made). m .lent .slots ∷ m .lent .table ∷ forecastWords (m .forecast) ∷ []) (make-refused profile (lend list table) n)
+make-leaves profile list cards table forecast =
+    leaves (notForecast forecast) _ _ _ (small (makeRows profile (lend list cards table)) _ tt (below.make-tells profile (lend list cards table))) λ t n _ _.
+    ap (λ (m : rules.Made). m .lent .slots ∷ m .lent .cards ∷ m .lent .table ∷ forecastWords (m .forecast) ∷ []) (make-refused profile (lend list cards table) n)
 
 pub lookup-leaves : LookupLeaves
 unfolding lookup
-lookup-leaves profile list table key reply =
-    leaves (short reply 2) _ _ _ (small (lookupRows profile (lend list table) key) _ tt (below.lookup-tells profile (lend list table) key)) λ t n _ _.
-    ap (λ (f : Found). over (one (f .present) ∷ f .segment ∷ []) reply ∷ []) (lookup-refused profile (lend list table) key n)
+lookup-leaves profile list cards table key reply =
+    leaves (short reply 3) _ _ _ (small (lookupRows profile (lend list cards table) key) _ tt (below.lookup-tells profile (lend list cards table) key)) λ t n _ _.
+    ap (λ (f : Found). over (one (f .present) ∷ f .segment ∷ f .card ∷ []) reply ∷ []) (lookup-refused profile (lend list cards table) key n)
 
 pub scan-leaves : ScanLeaves
 unfolding scan
-scan-leaves profile list table from output reply =
-    leaves (short reply 2) _ _ _ (small (readRows profile (lend list table)) _ tt (below.scan-tells profile (lend list table) from output)) λ t n _ _.
-    ap (λ (c : Scanned). c .output ∷ over (c .written ∷ one (c .more) ∷ []) reply ∷ []) (scan-refused profile (lend list table) from output n)
+scan-leaves profile list cards table from output output-cards reply =
+    leaves (short reply 2) _ _ _ (small (readRows profile (lend list cards table)) _ tt (below.scan-tells profile (lend list cards table) from output output-cards)) λ t n _ _.
+    ap (λ (c : Scanned). c .output ∷ c .cards ∷ over (c .written ∷ one (c .more) ∷ []) reply ∷ []) (scan-refused profile (lend list cards table) from output output-cards n)
 
 pub insert-leaves : InsertLeaves
 unfolding insert
-insert-leaves profile list table forecast key reply =
+insert-leaves profile list cards table forecast key card reply =
     leaves (notForecast forecast || short reply 1) _ _ _
-    (small (insertRows profile (lend list table) (forecastIn forecast) key) _ tt (below.insert-tells profile (lend list table) (forecastIn forecast) key (roomy forecast))) λ t n _ _.
-    ap (λ (c : rules.Called). leftBy c (over (c .answer .moves ∷ []) reply)) (request-refused profile (Insert key) (lend list table) (forecastIn forecast) n)
-    ∙ ap (λ (ws : List ℕ). list ∷ table ∷ ws ∷ over (0 ∷ []) reply ∷ []) (words-again forecast (forecast-fits forecast (neither (notForecast forecast) _ t .0)))
+    (small (insertRows profile (lend list cards table) (forecastIn forecast) key) _ tt (below.insert-tells profile (lend list cards table) (forecastIn forecast) key card (roomy forecast))) λ t n _ _.
+    ap (λ (c : rules.Called). leftBy c (over (c .answer .moves ∷ []) reply)) (request-refused profile (Insert key) card (lend list cards table) (forecastIn forecast) n)
+    ∙ ap (λ (ws : List ℕ). list ∷ cards ∷ table ∷ ws ∷ over (0 ∷ []) reply ∷ []) (words-again forecast (forecast-fits forecast (neither (notForecast forecast) _ t .0)))
 
 pub delete-leaves : DeleteLeaves
 unfolding delete
-delete-leaves profile list table forecast key reply =
+delete-leaves profile list cards table forecast key reply =
     leaves (notForecast forecast || short reply 2) _ _ _
-    (small (deleteRows profile (lend list table) (forecastIn forecast) key) _ tt (below.delete-tells profile (lend list table) (forecastIn forecast) key (roomy forecast))) λ t n _ _.
+    (small (deleteRows profile (lend list cards table) (forecastIn forecast) key) _ tt (below.delete-tells profile (lend list cards table) (forecastIn forecast) key (roomy forecast))) λ t n _ _.
     ap (λ (c : rules.Called). leftBy c (over (c .answer .moves ∷ one (c .answer .sparse) ∷ []) reply))
-    (request-refused profile (Delete key) (lend list table) (forecastIn forecast) n)
-    ∙ ap (λ (ws : List ℕ). list ∷ table ∷ ws ∷ over (0 ∷ 0 ∷ []) reply ∷ []) (words-again forecast (forecast-fits forecast (neither (notForecast forecast) _ t .0)))
+    (request-refused profile (Delete key) 0 (lend list cards table) (forecastIn forecast) n)
+    ∙ ap (λ (ws : List ℕ). list ∷ cards ∷ table ∷ ws ∷ over (0 ∷ 0 ∷ []) reply ∷ []) (words-again forecast (forecast-fits forecast (neither (notForecast forecast) _ t .0)))
 
 -- A RUN whose stop is none of 0, 9 and 10 was refused by its check
 unchecked : (profile : ℕ) (L : Lent) (F : Forecast) (requests : List ℕ) (allowance : ℕ) (S : Totals) → rules.run profile L F requests allowance S .reply .stop ≢ 0
@@ -107,13 +107,13 @@ unchecked profile L F requests allowance S n m k z =
 
 pub run-leaves : RunLeaves
 unfolding run
-run-leaves profile list table forecast requests allowance totals reply =
+run-leaves profile list cards table forecast requests allowance totals reply =
     leaves (notForecast forecast || (notTotals totals || short reply 4)) _ _ _
-    (small (allRows profile (lend list table) forecast requests allowance totals reply) _ tt (below-tells profile (lend list table) forecast requests allowance totals reply)) λ t n m k.
+    (small (allRows profile (lend list cards table) forecast requests allowance totals reply) _ tt (below-tells profile (lend list cards table) forecast requests allowance totals reply)) λ t n m k.
     let F = forecastIn forecast in
     let S = totalsIn totals in
     let f = forecast-fits forecast (neither (notForecast forecast) _ t .0) in
     let g = totals-fit totals (neither (notTotals totals) _ (neither (notForecast forecast) _ t .1) .0) in
-    ap (λ (w : rules.Worked). w .lent .slots ∷ w .lent .table ∷ forecastWords (w .forecast) ∷ totalsWords (w .totals) ∷ over (replyWords (w .reply .tally)) reply ∷ [])
-    (run-refused profile (lend list table) F requests allowance S (unchecked profile (lend list table) F requests allowance S n m k))
-    ∙ (λ i. list ∷ table ∷ words-again forecast f i ∷ totals-again totals g i ∷ over (0 ∷ 0 ∷ 0 ∷ 0 ∷ []) reply ∷ [])
+    ap (λ (w : rules.Worked). w .lent .slots ∷ w .lent .cards ∷ w .lent .table ∷ forecastWords (w .forecast) ∷ totalsWords (w .totals) ∷ over (replyWords (w .reply .tally)) reply ∷ [])
+    (run-refused profile (lend list cards table) F requests allowance S (unchecked profile (lend list cards table) F requests allowance S n m k))
+    ∙ (λ i. list ∷ cards ∷ table ∷ words-again forecast f i ∷ totals-again totals g i ∷ over (0 ∷ 0 ∷ 0 ∷ 0 ∷ []) reply ∷ [])

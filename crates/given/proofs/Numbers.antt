@@ -46,25 +46,25 @@ sized-tells wrong W rs lent o d t = tells-if (λ (x : Given). x .number) wrong (
 
 pub make-tells : MakeTells
 unfolding make
-make-tells profile list table forecast =
-    sized-tells (notForecast forecast) (NotForecast forecast) (makeRows profile (lend list table)) _ _ (unequal (length forecast) 37)
-    (below.make-tells profile (lend list table))
+make-tells profile list cards table forecast =
+    sized-tells (notForecast forecast) (NotForecast forecast) (makeRows profile (lend list cards table)) _ _ (unequal (length forecast) 37)
+    (below.make-tells profile (lend list cards table))
 
 pub check-tells : CheckTells
 unfolding check
-check-tells profile list table forecast =
-    sized-tells (notForecast forecast) (NotForecast forecast) (bothRows profile (lend list table) (forecastIn forecast)) _ _ (unequal (length forecast) 37)
-    (below.check-tells profile (lend list table) (forecastIn forecast) (roomy forecast))
+check-tells profile list cards table forecast =
+    sized-tells (notForecast forecast) (NotForecast forecast) (bothRows profile (lend list cards table) (forecastIn forecast)) _ _ (unequal (length forecast) 37)
+    (below.check-tells profile (lend list cards table) (forecastIn forecast) (roomy forecast))
 
 pub lookup-tells : LookupTells
 unfolding lookup
-lookup-tells profile list table key reply =
-    sized-tells (short reply 2) (length reply < 2) (lookupRows profile (lend list table) key) _ _ (shorter (length reply) 2) (below.lookup-tells profile (lend list table) key)
+lookup-tells profile list cards table key reply =
+    sized-tells (short reply 3) (length reply < 3) (lookupRows profile (lend list cards table) key) _ _ (shorter (length reply) 3) (below.lookup-tells profile (lend list cards table) key)
 
 pub scan-tells : ScanTells
 unfolding scan
-scan-tells profile list table from output reply =
-    sized-tells (short reply 2) (length reply < 2) (readRows profile (lend list table)) _ _ (shorter (length reply) 2) (below.scan-tells profile (lend list table) from output)
+scan-tells profile list cards table from output output-cards reply =
+    sized-tells (short reply 2) (length reply < 2) (readRows profile (lend list cards table)) _ _ (shorter (length reply) 2) (below.scan-tells profile (lend list cards table) from output output-cards)
 
 -- a forecast and a reply of n words
 both : (forecast reply : List ℕ) (n : ℕ) → Decides (notForecast forecast || short reply n) (row100 (NotForecast forecast ⊎ (length reply < n)))
@@ -72,15 +72,15 @@ both forecast reply n = either-size (notForecast forecast) (short reply n) _ _ (
 
 pub insert-tells : InsertTells
 unfolding insert
-insert-tells profile list table forecast key reply =
-    sized-tells (notForecast forecast || short reply 1) (NotForecast forecast ⊎ (length reply < 1)) (insertRows profile (lend list table) (forecastIn forecast) key) _ _
-    (both forecast reply 1) (below.insert-tells profile (lend list table) (forecastIn forecast) key (roomy forecast))
+insert-tells profile list cards table forecast key card reply =
+    sized-tells (notForecast forecast || short reply 1) (NotForecast forecast ⊎ (length reply < 1)) (insertRows profile (lend list cards table) (forecastIn forecast) key) _ _
+    (both forecast reply 1) (below.insert-tells profile (lend list cards table) (forecastIn forecast) key card (roomy forecast))
 
 pub delete-tells : DeleteTells
 unfolding delete
-delete-tells profile list table forecast key reply =
-    sized-tells (notForecast forecast || short reply 2) (NotForecast forecast ⊎ (length reply < 2)) (deleteRows profile (lend list table) (forecastIn forecast) key) _ _
-    (both forecast reply 2) (below.delete-tells profile (lend list table) (forecastIn forecast) key (roomy forecast))
+delete-tells profile list cards table forecast key reply =
+    sized-tells (notForecast forecast || short reply 2) (NotForecast forecast ⊎ (length reply < 2)) (deleteRows profile (lend list cards table) (forecastIn forecast) key) _ _
+    (both forecast reply 2) (below.delete-tells profile (lend list cards table) (forecastIn forecast) key (roomy forecast))
 
 -- A RUN
 module _ (profile : ℕ) (L : Lent) (forecast requests : List ℕ) (allowance : ℕ) (totals reply : List ℕ) where
@@ -104,7 +104,7 @@ module _ (profile : ℕ) (L : Lent) (forecast requests : List ℕ) (allowance : 
 
 pub run-tells : RunTells
 unfolding run
-run-tells profile list table forecast requests allowance totals reply =
+run-tells profile list cards table forecast requests allowance totals reply =
     sized-tells (notForecast forecast || (notTotals totals || short reply 4)) (NotForecast forecast ⊎ ((length totals ≢ 4) ⊎ (length reply < 4)))
-    (allRows profile (lend list table) forecast requests allowance totals reply) _ _ (sizes profile (lend list table) forecast requests allowance totals reply)
-    (below-tells profile (lend list table) forecast requests allowance totals reply)
+    (allRows profile (lend list cards table) forecast requests allowance totals reply) _ _ (sizes profile (lend list cards table) forecast requests allowance totals reply)
+    (below-tells profile (lend list cards table) forecast requests allowance totals reply)

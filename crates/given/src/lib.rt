@@ -5,4 +5,5 @@ pub struct Told {
     pub number: u64,
     pub first: u64,
     pub second: u64,
+    pub third: u64,
 }

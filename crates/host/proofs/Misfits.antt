@@ -8,35 +8,35 @@ use lib.ListN.{length}
 use Rattle.given.specs.Calls.{make, check, lookup, insert, delete, scan, run, notForecast, notTotals, short, Gives}
 use Rattle.given.proofs.Sizes.{misfit}
 
-module _ (profile : ℕ) (list table forecast : List ℕ) (r : Bool) (e : r ≡ notForecast forecast) (t : r ≡ true) where
-  pub make-misfit : Gives (make profile list table forecast) 100 (list ∷ table ∷ forecast ∷ [])
+module _ (profile : ℕ) (list cards table forecast : List ℕ) (r : Bool) (e : r ≡ notForecast forecast) (t : r ≡ true) where
+  pub make-misfit : Gives (make profile list cards table forecast) 100 (list ∷ cards ∷ table ∷ forecast ∷ [])
   unfolding make
   make-misfit = misfit _ _ _ (sym e ∙ t)
 
-  pub check-misfit : Gives (check profile list table forecast) 100 []
+  pub check-misfit : Gives (check profile list cards table forecast) 100 []
   unfolding check
   check-misfit = misfit _ _ _ (sym e ∙ t)
 
-module _ (profile : ℕ) (list table : List ℕ) (key : ℕ) (reply : List ℕ) (l : length reply < 2) where
-  pub lookup-misfit : Gives (lookup profile list table key reply) 100 (reply ∷ [])
+module _ (profile : ℕ) (list cards table : List ℕ) (key : ℕ) (reply : List ℕ) where
+  pub lookup-misfit : length reply < 3 → Gives (lookup profile list cards table key reply) 100 (reply ∷ [])
   unfolding lookup
-  lookup-misfit = misfit _ _ _ (lt-ltb (length reply) 2 l)
+  lookup-misfit l = misfit _ _ _ (lt-ltb (length reply) 3 l)
 
-  pub scan-misfit : (output : List ℕ) → Gives (scan profile list table key output reply) 100 (output ∷ reply ∷ [])
+  pub scan-misfit : (output output-cards : List ℕ) → length reply < 2 → Gives (scan profile list cards table key output output-cards reply) 100 (output ∷ output-cards ∷ reply ∷ [])
   unfolding scan
-  scan-misfit output = misfit _ _ _ (lt-ltb (length reply) 2 l)
+  scan-misfit output output-cards l = misfit _ _ _ (lt-ltb (length reply) 2 l)
 
-module _ (profile : ℕ) (list table forecast : List ℕ) (key : ℕ) (reply : List ℕ) (r : Bool) where
-  pub insert-misfit : r ≡ (notForecast forecast || short reply 1) → r ≡ true → Gives (insert profile list table forecast key reply) 100 (list ∷ table ∷ forecast ∷ reply ∷ [])
+module _ (profile : ℕ) (list cards table forecast : List ℕ) (key : ℕ) (reply : List ℕ) (r : Bool) where
+  pub insert-misfit : (card : ℕ) → r ≡ (notForecast forecast || short reply 1) → r ≡ true → Gives (insert profile list cards table forecast key card reply) 100 (list ∷ cards ∷ table ∷ forecast ∷ reply ∷ [])
   unfolding insert
-  insert-misfit e t = misfit _ _ _ (sym e ∙ t)
+  insert-misfit card e t = misfit _ _ _ (sym e ∙ t)
 
-  pub delete-misfit : r ≡ (notForecast forecast || short reply 2) → r ≡ true → Gives (delete profile list table forecast key reply) 100 (list ∷ table ∷ forecast ∷ reply ∷ [])
+  pub delete-misfit : r ≡ (notForecast forecast || short reply 2) → r ≡ true → Gives (delete profile list cards table forecast key reply) 100 (list ∷ cards ∷ table ∷ forecast ∷ reply ∷ [])
   unfolding delete
   delete-misfit e t = misfit _ _ _ (sym e ∙ t)
 
-pub run-misfit : (profile : ℕ) (list table forecast requests : List ℕ) (allowance : ℕ) (totals reply : List ℕ) (r : Bool)
+pub run-misfit : (profile : ℕ) (list cards table forecast requests : List ℕ) (allowance : ℕ) (totals reply : List ℕ) (r : Bool)
     → r ≡ (notForecast forecast || (notTotals totals || short reply 4)) → r ≡ true
-    → Gives (run profile list table forecast requests allowance totals reply) 100 (list ∷ table ∷ forecast ∷ totals ∷ reply ∷ [])
+    → Gives (run profile list cards table forecast requests allowance totals reply) 100 (list ∷ cards ∷ table ∷ forecast ∷ totals ∷ reply ∷ [])
 unfolding run
-run-misfit profile list table forecast requests allowance totals reply r e t = misfit _ _ _ (sym e ∙ t)
+run-misfit profile list cards table forecast requests allowance totals reply r e t = misfit _ _ _ (sym e ∙ t)

@@ -4,22 +4,24 @@ ghost use Rattle.given.specs.Calls.{Gives};
 ghost use Rattle.given.specs.Calls as calls;
 use crate::MISFIT;
 
-// Puts a new key in.
+// Puts a new key in, with its card.
 #[no_mangle]
 pub extern "C" fn ff_insert(
     profile: u64,
     list: &mut [u64],
+    cards: &mut [u32],
     table: &mut [usize],
     forecast: &mut [u64],
     key: u64,
+    card: u32,
     reply: &mut [u64],
 ) -> u64
-    ensures { λ r. ⌜ Gives (calls.insert profile (now (list .entry)) (now (table .entry)) (now (forecast .entry)) key (now (reply .entry))) r (now (list .exit) ∷ now (table .exit) ∷ now (forecast .exit) ∷ now (reply .exit) ∷ []) ⌝ }
+    ensures { λ r. ⌜ Gives (calls.insert profile (now (list .entry)) (now (cards .entry)) (now (table .entry)) (now (forecast .entry)) key card (now (reply .entry))) r (now (list .exit) ∷ now (cards .exit) ∷ now (table .exit) ∷ now (forecast .exit) ∷ now (reply .exit) ∷ []) ⌝ }
 {
     if replies::sizes::misfits(forecast.len(), reply.len(), 1) {
         return MISFIT;
     }
-    worded::insert(profile, list, table, forecast, key, reply)
+    worded::insert(profile, list, cards, table, forecast, key, card, reply)
 }
 
 // Takes a live key out.
@@ -27,15 +29,16 @@ pub extern "C" fn ff_insert(
 pub extern "C" fn ff_delete(
     profile: u64,
     list: &mut [u64],
+    cards: &mut [u32],
     table: &mut [usize],
     forecast: &mut [u64],
     key: u64,
     reply: &mut [u64],
 ) -> u64
-    ensures { λ r. ⌜ Gives (calls.delete profile (now (list .entry)) (now (table .entry)) (now (forecast .entry)) key (now (reply .entry))) r (now (list .exit) ∷ now (table .exit) ∷ now (forecast .exit) ∷ now (reply .exit) ∷ []) ⌝ }
+    ensures { λ r. ⌜ Gives (calls.delete profile (now (list .entry)) (now (cards .entry)) (now (table .entry)) (now (forecast .entry)) key (now (reply .entry))) r (now (list .exit) ∷ now (cards .exit) ∷ now (table .exit) ∷ now (forecast .exit) ∷ now (reply .exit) ∷ []) ⌝ }
 {
     if replies::sizes::misfits(forecast.len(), reply.len(), 2) {
         return MISFIT;
     }
-    worded::delete(profile, list, table, forecast, key, reply)
+    worded::delete(profile, list, cards, table, forecast, key, reply)
 }

@@ -9,6 +9,7 @@ use crate::MISFIT;
 pub extern "C" fn ff_run(
     profile: u64,
     list: &mut [u64],
+    cards: &mut [u32],
     table: &mut [usize],
     forecast: &mut [u64],
     requests: &[u8],
@@ -16,7 +17,7 @@ pub extern "C" fn ff_run(
     totals: &mut [u32],
     reply: &mut [u64],
 ) -> u64
-    ensures { λ r. ⌜ Gives (calls.run profile (now (list .entry)) (now (table .entry)) (now (forecast .entry)) (now (requests .entry)) allowance (now (totals .entry)) (now (reply .entry))) r (now (list .exit) ∷ now (table .exit) ∷ now (forecast .exit) ∷ now (totals .exit) ∷ now (reply .exit) ∷ []) ⌝ }
+    ensures { λ r. ⌜ Gives (calls.run profile (now (list .entry)) (now (cards .entry)) (now (table .entry)) (now (forecast .entry)) (now (requests .entry)) allowance (now (totals .entry)) (now (reply .entry))) r (now (list .exit) ∷ now (cards .exit) ∷ now (table .exit) ∷ now (forecast .exit) ∷ now (totals .exit) ∷ now (reply .exit) ∷ []) ⌝ }
 {
     if replies::sizes::run_misfits(forecast.len(), totals.len(), reply.len()) {
         return MISFIT;
@@ -24,6 +25,7 @@ pub extern "C" fn ff_run(
     worded::run(
         profile,
         list,
+        cards,
         table,
         forecast,
         requests,

@@ -8,17 +8,19 @@ use answers::InsertReply;
 use forecast::Forecast;
 use rules::Verdict;
 
-// Puts a new key in.
+// Puts a new key in, with its card.
 pub fn insert(
     profile: u64,
     list: &mut [u64],
+    cards: &mut [u32],
     table: &mut [usize],
     forecast: Forecast,
     key: u64,
+    card: u32,
 ) -> InsertReply
-    ensures { λ r. ⌜ InsertAdmits profile (lend (now (list .entry)) (now (table .entry))) forecast key r (lend (now (list .exit)) (now (table .exit))) ⌝ }
+    ensures { λ r. ⌜ InsertAdmits profile (lend (now (list .entry)) (now (cards .entry)) (now (table .entry))) forecast key card r (lend (now (list .exit)) (now (cards .exit)) (now (table .exit))) ⌝ }
 {
-    let reply = asking::ask(profile, list, table, forecast, true, key);
+    let reply = asking::ask(profile, list, cards, table, forecast, true, key, card);
     let verdict = reply.verdict;
     let after = reply.forecast;
     if let Verdict::Refused(refusal) = verdict {
@@ -37,13 +39,14 @@ pub fn insert(
 pub fn delete(
     profile: u64,
     list: &mut [u64],
+    cards: &mut [u32],
     table: &mut [usize],
     forecast: Forecast,
     key: u64,
 ) -> DeleteReply
-    ensures { λ r. ⌜ DeleteAdmits profile (lend (now (list .entry)) (now (table .entry))) forecast key r (lend (now (list .exit)) (now (table .exit))) ⌝ }
+    ensures { λ r. ⌜ DeleteAdmits profile (lend (now (list .entry)) (now (cards .entry)) (now (table .entry))) forecast key r (lend (now (list .exit)) (now (cards .exit)) (now (table .exit))) ⌝ }
 {
-    let reply = asking::ask(profile, list, table, forecast, false, key);
+    let reply = asking::ask(profile, list, cards, table, forecast, false, key, 0);
     let verdict = reply.verdict;
     let after = reply.forecast;
     let moves = reply.moves;

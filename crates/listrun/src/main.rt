@@ -34,8 +34,9 @@ fn main() {
     let mut input = io::large_buffer();
     let n = io::read_full(0, &mut input);
     let mut slots = [0u64; 256];
+    let mut cards = [0u32; 256];
     let mut table = [0usize; 7];
-    let made = list::calls::make(1, &mut slots, &mut table);
+    let made = list::calls::make(1, &mut slots, &mut cards, &mut table);
     let totals = Totals {
         worked: 0,
         refused: 0,
@@ -45,6 +46,7 @@ fn main() {
     let done = run::running::run_with(
         1,
         &mut slots,
+        &mut cards,
         &mut table,
         made.forecast,
         &input[..n],

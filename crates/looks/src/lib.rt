@@ -1,4 +1,4 @@
-// Lookup and scan on a list and a table that have passed their check, whatever the profile, as code.
+// Lookup and scan on a list, cards and a table that have passed their check, whatever the profile, as code.
 ghost use mathlib.Core.Path.{_≡_};
 ghost use mathlib.Core.List.{List};
 ghost use Prim.Native.Nat.{ℕ, _+_, _*_, _≤_};
@@ -14,10 +14,10 @@ use answers::LookupAnswer;
 use answers::ScanAnswer;
 use rules::Refusal;
 
-// Whether a key is live, and where.
-pub fn look_up(list: &[u64], table: &[usize], key: u64) -> LookupAnswer
-    requires { ⌜ ((profile : ℕ) × (checkRead profile (lend (now list) (now table)) ≡ 0)) ⌝ }
-    ensures { λ r. ⌜ ((profile : ℕ) → checkRead profile (lend (now (list .entry)) (now (table .entry))) ≡ 0 → LookupAdmits profile (lend (now (list .entry)) (now (table .entry))) key r) ⌝ }
+// Whether a key is live, where, and its card.
+pub fn look_up(list: &[u64], cards: &[u32], table: &[usize], key: u64) -> LookupAnswer
+    requires { ⌜ ((profile : ℕ) × (checkRead profile (lend (now list) (now cards) (now table)) ≡ 0)) ⌝ }
+    ensures { λ r. ⌜ ((profile : ℕ) → checkRead profile (lend (now (list .entry)) (now (cards .entry)) (now (table .entry))) ≡ 0 → LookupAdmits profile (lend (now (list .entry)) (now (cards .entry)) (now (table .entry))) key r) ⌝ }
 {
     if key == 0 {
         return LookupAnswer::Refused(Refusal::KeyZero);
@@ -25,7 +25,7 @@ pub fn look_up(list: &[u64], table: &[usize], key: u64) -> LookupAnswer
     let segment = tables::descending::seek(table, list, list.len() / 64, key);
     let place = seeking::finding::place_in(list, 64 * segment, key);
     if list[place] == key {
-        return LookupAnswer::Present(segment);
+        return LookupAnswer::Present(segment, cards[place]);
     }
     LookupAnswer::Absent
 }
@@ -46,14 +46,21 @@ fn past(list: &[u64], segment: usize, from: u64) -> usize
     place - 64 * segment + 1
 }
 
-// The live keys above `from`, rising, into `output` until it is full or they end, by the table.
-pub fn scan_from(list: &[u64], table: &[usize], from: u64, output: &mut [u64]) -> ScanAnswer
-    requires { ⌜ ((profile : ℕ) × (checkRead profile (lend (now list) (now table)) ≡ 0)) ⌝ }
-    ensures { λ r. ⌜ ((profile : ℕ) → checkRead profile (lend (now (list .entry)) (now (table .entry))) ≡ 0 → ScanAdmits profile (lend (now (list .entry)) (now (table .entry))) from (now (output .entry)) r (now (output .exit))) ⌝ }
+// The live keys above `from`, rising, and their cards into two outputs until either is full or they end, by the table.
+pub fn scan_from(
+    list: &[u64],
+    cards: &[u32],
+    table: &[usize],
+    from: u64,
+    output: &mut [u64],
+    output_cards: &mut [u32],
+) -> ScanAnswer
+    requires { ⌜ ((profile : ℕ) × (checkRead profile (lend (now list) (now cards) (now table)) ≡ 0)) ⌝ }
+    ensures { λ r. ⌜ ((profile : ℕ) → checkRead profile (lend (now (list .entry)) (now (cards .entry)) (now (table .entry))) ≡ 0 → ScanAdmits profile (lend (now (list .entry)) (now (cards .entry)) (now (table .entry))) from (now (output .entry)) (now («output_cards» .entry)) r (now (output .exit)) (now («output_cards» .exit))) ⌝ }
 {
     let segment = tables::descending::seek(table, list, list.len() / 64, from);
     let at = past(list, segment, from);
-    let written = scans::write_keys(list, table, segment, at, output);
+    let written = scans::write_keys(list, cards, table, segment, at, output, output_cards);
     if written.more {
         return ScanAnswer::More(written.keys);
     }

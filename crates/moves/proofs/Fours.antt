@@ -1,37 +1,17 @@
 -- Slots copied four at a time, the four at the far end, which may overlap those before, read first and written last: laws of a copy of k slots.
-use mathlib.Core.Path.{_≡_, refl, sym, ap, ap₂, _∙_}
-use Prim.Native.Nat.{ℕ, suc, _+_, _-_, _≤_, _<_}
+use mathlib.Core.Path.{_≡_, sym, ap, ap₂, _∙_}
+use Prim.Native.Nat.{ℕ, _+_, _-_, _≤_}
 use native.Mathlib.Nat.{add-zero}
 use native.Mathlib.Omega.{arith}
-use mathlib.Core.List.{List, [], _∷_, _++_, append-assoc}
-use lib.ListN.{length, getD, set, take, drop, length-take, length-drop}
-use lib.Seq.{paste, sets-eq, length-paste-head, drop-cons, length-take-le, take-at, take-append-le, take-append-add, drop-append-le, drop-append-add, take-take, drop-drop, take-add}
+use mathlib.Core.List.{List, _++_, append-assoc}
+use lib.ListN.{length, take, drop, length-take, length-drop}
+use lib.Seq.{paste, length-paste-head, length-take-le, take-at, take-append-le, take-append-add, drop-append-le, drop-append-add, take-take, drop-drop, take-add}
 use Rattle.moves.specs.Moves.{moved}
 use Rattle.moves.proofs.Moving.{Right, right-all}
 use Rattle.moves.proofs.Gaps.{take-drop}
 use Rattle.moves.proofs.Fronts.{drop-past, part-alike}
 
 module _ {A : Type 0} where
-  -- FOUR SLOTS, read and written
-  one-read : (l : List A) (n j k : ℕ) (z : A) → k ≡ j + 1 → j < length l → take (suc n) (drop j l) ≡ getD l j z ∷ take n (drop k l)
-  one-read l n j k z e h =
-      let e₁ : suc j ≡ k = omega arith in
-      ap (take (suc n)) (drop-cons l j z h) ∙ ap (λ (m : ℕ). getD l j z ∷ take n (drop m l)) e₁
-
-  pub four-read : (l : List A) (j : ℕ) (z : A) → j + 4 ≤ length l → take 4 (drop j l) ≡ getD l j z ∷ getD l (j + 1) z ∷ getD l (j + 2) z ∷ getD l (j + 3) z ∷ []
-  four-read l j z h =
-      one-read l 3 j (j + 1) z refl (omega arith)
-      ∙ ap (λ (t : List A). getD l j z ∷ t) (one-read l 2 (j + 1) (j + 2) z (omega arith) (omega arith))
-      ∙ ap (λ (t : List A). getD l j z ∷ getD l (j + 1) z ∷ t) (one-read l 1 (j + 2) (j + 3) z (omega arith) (omega arith))
-      ∙ ap (λ (t : List A). getD l j z ∷ getD l (j + 1) z ∷ getD l (j + 2) z ∷ t) (one-read l 0 (j + 3) (j + 4) z (omega arith) (omega arith))
-
-  pub four-put : (l : List A) (to : ℕ) (w x y z : A) → to + 4 ≤ length l → set (set (set (set l to w) (to + 1) x) (to + 2) y) (to + 3) z ≡ paste l to (w ∷ x ∷ y ∷ z ∷ []) 4
-  four-put l to w x y z h =
-      let e₁ : to + 1 ≡ suc to = omega arith in
-      let e₂ : to + 2 ≡ suc (suc to) = omega arith in
-      let e₃ : to + 3 ≡ suc (suc (suc to)) = omega arith in
-      rw (e₁, e₂, e₃) (sets-eq (w ∷ x ∷ y ∷ z ∷ []) l to h)
-
   -- FROM s: i slots of s from a on are copied to to, and then the k from e on
   take-laid : (l d : List A) (to e i : ℕ) → to + i ≤ length l → i ≤ length d → e ≤ i → take (to + e) (paste l to d i) ≡ take to l ++ take e d
   take-laid l d to e i h k j =
@@ -42,7 +22,7 @@ module _ {A : Type 0} where
       ∙ take-append-add (take to l) (take i d) e
       ∙ ap (λ (t : List A). take to l ++ t) (take-take e i d j)
 
-  pub lay-on : (l s : List A) (a to e k i : ℕ) → to + (e + k) ≤ length l → a + (e + k) ≤ length s → e ≤ i → i ≤ e + k
+  lay-on : (l s : List A) (a to e k i : ℕ) → to + (e + k) ≤ length l → a + (e + k) ≤ length s → e ≤ i → i ≤ e + k
       → paste (paste l to (drop a s) i) (to + e) (drop (a + e) s) k ≡ paste l to (drop a s) (e + k)
   lay-on l s a to e k i h q j m =
       let d : List A = drop a s in
@@ -63,13 +43,16 @@ module _ {A : Type 0} where
       n ∙ ap₂ {C = List A} (λ (p vs : List A). take (to + e) p ++ vs ++ drop (to + e + k) p) o (sym r) ∙ lay-on l s a to e k i h q j m
 
   -- TO THE LEFT: the same from the list itself, as the movement of i slots has left it
-  pub left-on : (l : List A) (from to i k : ℕ) → to ≤ from → from + (i + k) ≤ length l → moved (from + i) (to + i) k (moved from to i l) ≡ moved from to (i + k) l
+  left-on : (l : List A) (from to i k : ℕ) → to ≤ from → from + (i + k) ≤ length l → moved (from + i) (to + i) k (moved from to i l) ≡ moved from to (i + k) l
   left-on l from to i k h q =
       let d : List A = drop from l in
       let M : List A = moved from to i l in
       let lp : length (take to l ++ take i d) ≡ to + i = length-paste-head l to d i (omega arith) (simp length-drop (omega arith)) in
       ap (λ (t : List A). paste M (to + i) t k) (drop-past (take to l ++ take i d) l (to + i) (from + i) lp (omega arith))
       ∙ lay-on l l from to i k i (omega arith) q (omega arith) (omega arith)
+
+  pub left-turn : (l over new : List A) (from to i k : ℕ) → to ≤ from → from + (i + k) ≤ length l → over ≡ moved from to i l → new ≡ moved (from + i) (to + i) k over → new ≡ moved from to (i + k) l
+  left-turn l over new from to i k h q o n = n ∙ ap (moved (from + i) (to + i) k) o ∙ left-on l from to i k h q
 
   -- TO THE RIGHT: the first i of c slots are left to copy, and then the k from j on are copied, read from the list as it was
   drop-right : (l : List A) (from to c i n : ℕ) → from ≤ to → to + c ≤ length l → i ≤ n → n ≤ c
@@ -89,7 +72,7 @@ module _ {A : Type 0} where
       ∙ ap (λ (m : ℕ). take m (drop (n - i) D) ++ r) e₂
       ∙ ap (λ (t : List A). take (c - n) t ++ r) (drop-drop (n - i) (from + i) l ∙ ap (λ (m : ℕ). drop m l) e₃)
 
-  pub right-lay : (l : List A) (from to c j k i : ℕ) → from ≤ to → to + c ≤ length l → j ≤ i → i ≤ j + k → j + k ≤ c
+  right-lay : (l : List A) (from to c j k i : ℕ) → from ≤ to → to + c ≤ length l → j ≤ i → i ≤ j + k → j + k ≤ c
       → paste (Right l from to c i) (to + j) (drop (from + j) l) k ≡ Right l from to c j
   right-lay l from to c j k i h q p m n =
       let R : List A = Right l from to c i in
@@ -106,14 +89,14 @@ module _ {A : Type 0} where
       ∙ ap (λ (t : List A). take (to + j) l ++ t) (sym (append-assoc (take k D) (take (c - (j + k)) (drop k D)) r) ∙ ap (λ (t : List A). t ++ r) (sym (take-add k (c - (j + k)) D)))
       ∙ ap (λ (m : ℕ). take (to + j) l ++ (take m D ++ r)) e₃
 
-  pub right-last : (l : List A) (from to c k i : ℕ) → from ≤ to → to + c ≤ length l → i ≤ k → k ≤ c → paste (Right l from to c i) to (drop from l) k ≡ moved from to c l
+  right-last : (l : List A) (from to c k i : ℕ) → from ≤ to → to + c ≤ length l → i ≤ k → k ≤ c → paste (Right l from to c i) to (drop from l) k ≡ moved from to c l
   right-last l from to c k i h q m n =
       ap (λ (t : ℕ). paste (Right l from to c i) t (drop from l) k) (sym (add-zero to))
       ∙ ap (λ (t : ℕ). paste (Right l from to c i) (to + 0) (drop t l) k) (sym (add-zero from))
       ∙ right-lay l from to c 0 k i h q (omega arith) (omega arith) (omega arith)
       ∙ right-all l from to c
 
-  pub right-on : (l : List A) (from to c i k : ℕ) → from ≤ to → to + c ≤ length l → i ≤ c → k ≤ i
+  right-on : (l : List A) (from to c i k : ℕ) → from ≤ to → to + c ≤ length l → i ≤ c → k ≤ i
       → moved (from + (i - k)) (to + (i - k)) k (Right l from to c i) ≡ Right l from to c (i - k)
   right-on l from to c i k h q m n =
       let j : ℕ = i - k in
@@ -124,3 +107,13 @@ module _ {A : Type 0} where
       let e : take k (drop (from + j) R) ≡ take k (drop (from + j) l) = part-alike (from + j) k (to + i) R l (omega arith) (take-at f r (to + i) lf) in
       ap (λ (t : List A). take (to + j) R ++ t ++ drop (to + j + k) R) e
       ∙ right-lay l from to c j k i h q (omega arith) (omega arith) (omega arith)
+
+  -- the same, of what was moved, and of what was read and what it was laid over
+  pub right-turn : (l over new : List A) (from to c i k : ℕ) → from ≤ to → to + c ≤ length l → i ≤ c → k ≤ i → over ≡ Right l from to c i
+      → new ≡ moved (from + (i - k)) (to + (i - k)) k over → new ≡ Right l from to c (i - k)
+  right-turn l over new from to c i k h q m p o n = n ∙ ap (moved (from + (i - k)) (to + (i - k)) k) o ∙ right-on l from to c i k h q m p
+
+  pub right-laid : (l read over new : List A) (from to c k i : ℕ) → from ≤ to → to + c ≤ length l → i ≤ k → k ≤ c → take k (drop from l) ≡ read → over ≡ Right l from to c i
+      → new ≡ take to over ++ read ++ drop (to + k) over → new ≡ moved from to c l
+  right-laid l read over new from to c k i h q m p r o n =
+      n ∙ ap₂ {C = List A} (λ (p vs : List A). take to p ++ vs ++ drop (to + k) p) o (sym r) ∙ right-last l from to c k i h q m p

@@ -2,3 +2,4 @@ pub mod Moving
 pub mod Fronts
 pub mod Gaps
 pub mod Fours
+pub mod Natural

@@ -6,7 +6,7 @@ use native.Mathlib.Numerals.{add-one}
 use native.Mathlib.Omega.{arith}
 use mathlib.Core.List.{List, [], _∷_, _++_, append-assoc, append-nil}
 use lib.ListN.{length, getD, set, take, drop, replicate, length-append, length-take, length-drop, length-replicate, take-append-drop, replicate-append-replicate, List·getD-append}
-use lib.Seq.{paste-zero, paste-suc, length-paste-head, getD-append-add, getD-drop, getD-take, take-suc, drop-cons, set-at, append-snoc, length-take-le}
+use lib.Seq.{paste, paste-zero, paste-suc, length-paste-head, getD-append-add, getD-drop, getD-take, take-suc, drop-cons, set-at, append-snoc, length-take-le}
 use Rattle.moves.specs.Moves.{moved, cleared}
 
 module _ {A : Type 0} where
@@ -21,6 +21,15 @@ module _ {A : Type 0} where
   getD-front l q n k z h i =
       List·getD-append (take n l) q z k (simp (length-take-le n l h) i) ∙ getD-take n l k z i
 
+  -- FROM another list: i slots of s from a on are copied
+  pub copy-more : (l s : List A) (a w i : ℕ) (z : A) → w + i < length l → a + i < length s
+      → set (paste l w (drop a s) i) (w + i) (getD s (a + i) z) ≡ paste l w (drop a s) (i + 1)
+  copy-more l s a w i z h k =
+      let hs : i < length (drop a s) = simp length-drop (omega arith) in
+      ap (set (paste l w (drop a s) i) (w + i)) (sym (getD-drop a s i z))
+      ∙ paste-suc l w (drop a s) i z h hs
+      ∙ ap (paste l w (drop a s)) (sym (add-one i))
+
   -- TO THE LEFT: i slots are copied
   pub left-none : (l : List A) (from to : ℕ) → l ≡ moved from to 0 l
   left-none l from to = paste-zero l to (drop from l)
@@ -29,12 +38,10 @@ module _ {A : Type 0} where
       → set (moved from to i l) (to + i) (getD (moved from to i l) (from + i) z) ≡ moved from to (i + 1) l
   left-more l from to i z h k =
       let hs : i < length (drop from l) = simp length-drop (omega arith) in
-      ap (λ (v : A). set (moved from to i l) (to + i) v)
+      ap (set (moved from to i l) (to + i))
       (getD-past (take to l ++ take i (drop from l)) l (to + i) (from + i) z
-      (length-paste-head l to (drop from l) i (omega arith) (omega arith)) (omega arith)
-      ∙ sym (getD-drop from l i z))
-      ∙ paste-suc l to (drop from l) i z (omega arith) hs
-      ∙ ap (λ (n : ℕ). moved from to n l) (sym (add-one i))
+      (length-paste-head l to (drop from l) i (omega arith) (omega arith)) (omega arith))
+      ∙ copy-more l l from to i z (omega arith) k
 
   -- TO THE RIGHT: what is left to copy are the first i
   abbrev pub Right : List A → ℕ → ℕ → ℕ → ℕ → List A
@@ -49,6 +56,9 @@ module _ {A : Type 0} where
   right-all l from to c =
       let e : c - 0 ≡ c = omega arith in
       simp (add-zero, e, append-assoc)
+
+  pub right-end : (l : List A) (from to c i : ℕ) → i ≡ 0 → Right l from to c i ≡ moved from to c l
+  right-end l from to c i e = ap (Right l from to c) e ∙ right-all l from to c
 
   right-suc : (l : List A) (from to c i : ℕ) (z : A) → from ≤ to → to + c ≤ length l → i < c
       → set (Right l from to c (suc i)) (to + i) (getD (Right l from to c (suc i)) (from + i) z) ≡ Right l from to c i

@@ -5,7 +5,6 @@ use mathlib.Core.List.{List, [], _∷_, _++_}
 use lib.ListN.{take, drop, replicate}
 use lib.Seq.{paste}
 use Rattle.lists.specs.Lists.{total, insertAt, without}
-use Rattle.moves.specs.declared.by_four.Four.{Four}
 
 module _ {A : Type 0} where
   -- count elements from index from, copied to index to
@@ -27,10 +26,6 @@ module _ {A : Type 0} where
   unfoldable pub gather : List ℕ → List A → List A
   gather [] l = []
   gather (c ∷ cs) l = take c l ++ gather cs (drop 64 l)
-
--- four slots that were read
-abbrev pub fourOf : Four → List ℕ
-fourOf f = f .w ∷ f .x ∷ f .y ∷ f .z ∷ []
 
 -- l′ is the window l with the keys of its segments, r in all, moved to the front; the slots after those are as they were
 pub record Packed {A : Type 0} (counts : List ℕ) (l : List A) (r : ℕ) (l′ : List A) : Type 0 where

@@ -1,4 +1,5 @@
--- What a check that accepts makes ready for work: list and forecast stand, and the table and the bounds are those of the segments.
+-- What a check that accepts makes ready for work: list and forecast stand, each card is beside its key, and the table and the bounds are
+-- those of the segments.
 use mathlib.Core.Path.{_≡_, sym, ap, _∙_, subst}
 use mathlib.Core.List.{List}
 use Prim.Native.Nat.{ℕ}
@@ -11,7 +12,8 @@ use Rattle.forecast.specs.declared.Forecast.{Forecast}
 use Rattle.rules.specs.declared.Verdict.the-variants.{Accepted}
 use Rattle.rules.specs.Refusals.{verdictNumber}
 use Rattle.rules.specs.Profiles.{numberOf}
-use Rattle.rules.specs.Lent.{Lent}
+use Rattle.rules.specs.Cards.{cardsBeside}
+use Rattle.rules.specs.Lent.{Lent, cardsOf}
 use Rattle.rules.specs.Checks.{checkBoth, check}
 use Rattle.rules.proofs.Requests.Checked.{checked}
 use Rattle.rules.proofs.Requests.Tabled.{check-passed, room-passes}
@@ -35,10 +37,10 @@ module _ (profile : ℕ) (L : Lent) (F : Forecast) (r : Listing) (look : LentLoo
   }
 
   -- what the records come to in the profile of the shape, they come to in the one that is named
-  pub ready-ends : {bytes : List ℕ} {allowance : ℕ} {w : Worked} {left table : List ℕ} → Ends (numberOf (r .shape .profile)) (L .slots) F bytes allowance w left table
-      → Ends profile (L .slots) F bytes allowance w left table
-  ready-ends {bytes = bytes} {allowance = allowance} {w = w} {left = left} {table = table} =
-      subst (λ (n : ℕ). Ends n (L .slots) F bytes allowance w left table) (look .named a)
+  pub ready-ends : {bytes : List ℕ} {allowance : ℕ} {w : Worked} {left : Lent} → Ends (numberOf (r .shape .profile)) (L .slots) (cardsOf L) F bytes allowance w left
+      → Ends profile (L .slots) (cardsOf L) F bytes allowance w left
+  ready-ends {bytes = bytes} {allowance = allowance} {w = w} {left = left} =
+      subst (λ (n : ℕ). Ends n (L .slots) (cardsOf L) F bytes allowance w left) (look .named a)
 
   -- with what `bound` leaves
   pub ready-index : (bounds : List ℕ) → ((ss : Segments) → Shows ss (L .slots) → bounds ≡ boundsOf ss) → Indexed (segmentsOf (L .slots)) (L .slots) bounds (L .table)
@@ -46,4 +48,8 @@ module _ (profile : ℕ) (L : Lent) (F : Forecast) (r : Listing) (look : LentLoo
       let sh = shows-stands ready-stands in
       let c = checked profile (L .slots) F (room-passes profile L F ready-passes) in
       indexed-start (segmentsOf (L .slots)) (L .slots) bounds (L .table) (heightOf (length (L .slots))) (c .1) sh (c .2 .proper .size) (b (segmentsOf (L .slots)) sh)
-      (check-passed profile L F ready-passes .1)
+      (check-passed profile L F ready-passes .2)
+
+  -- each card beside its key
+  pub ready-cards : L .cards ≡ cardsBeside (cardsOf L) (L .slots)
+  ready-cards = check-passed profile L F ready-passes .1

@@ -5,7 +5,7 @@ use mathlib.Core.Logic.{_≢_}
 use mathlib.Core.List.{List}
 use Rattle.forecast.specs.declared.Forecast.{Forecast}
 use Rattle.rules.specs.Refusals.{verdictNumber}
-use Rattle.rules.specs.Lent.{Lent}
+use Rattle.rules.specs.Lent.{Lent, cardsOf}
 use Rattle.rules.specs.Checks.{check}
 use Rattle.rules.specs.Runs.{nothing}
 use Rattle.steps.specs.declared.Worked.{Worked}
@@ -22,4 +22,4 @@ pub record Refuses (profile : ℕ) (L : Lent) (F : Forecast) (r : Worked) (left 
 -- Or what the records come to.
 pub record Opens (profile : ℕ) (L : Lent) (F : Forecast) (bytes : List ℕ) (allowance : ℕ) (r : Worked) (left : Lent) : Type 0 where
   pub refused : check profile L F ≢ 0 → Refuses profile L F r left
-  pub ended : check profile L F ≡ 0 → Ends profile (L .slots) F bytes allowance r (left .slots) (left .table)
+  pub ended : check profile L F ≡ 0 → Ends profile (L .slots) (cardsOf L) F bytes allowance r left

@@ -10,14 +10,15 @@ use steps::Worked;
 pub fn work_lent(
     profile: u64,
     list: &mut [u64],
+    cards: &mut [u32],
     table: &mut [usize],
     forecast: Forecast,
     requests: &[u8],
     allowance: u64,
 ) -> Worked
-    ensures { λ r. ⌜ Opens profile (lend (now (list .entry)) (now (table .entry))) forecast (now (requests .entry)) allowance r (lend (now (list .exit)) (now (table .exit))) ⌝ }
+    ensures { λ r. ⌜ Opens profile (lend (now (list .entry)) (now (cards .entry)) (now (table .entry))) forecast (now (requests .entry)) allowance r (lend (now (list .exit)) (now (cards .exit)) (now (table .exit))) ⌝ }
 {
-    let listing = checks::look_lent(profile, list, table, forecast);
+    let listing = checks::look_lent(profile, list, cards, table, forecast);
     let verdict = listing.verdict;
     if let Verdict::Refused(_) = verdict {
         return Worked {
@@ -35,6 +36,7 @@ pub fn work_lent(
     let mut plan: [usize; 64] = [0; 64];
     steps::working::work(
         list,
+        cards,
         table,
         &mut bounds,
         &mut plan,

@@ -41,11 +41,26 @@ module _ (xs : List ℕ) where
       bare-next i l m s (bare-next i k l r (bare-next i j k q (bare-next i i j p (λ n h u. absurd (omega arith)) (z .0)) (z .1)) (z .2)) (z .3)
 
   pub eight-bare : (i : ℕ)
-      → T (eqb (bitOr (bitOr (bitOr (bitOr (slotAt xs i) (slotAt xs (i + 1))) (slotAt xs (i + 2))) (slotAt xs (i + 3)))
-      (bitOr (bitOr (bitOr (slotAt xs (i + 4)) (slotAt xs (i + 5))) (slotAt xs (i + 6))) (slotAt xs (i + 7)))) 0)
+      → bitOr (bitOr (bitOr (bitOr (slotAt xs i) (slotAt xs (i + 1))) (slotAt xs (i + 2))) (slotAt xs (i + 3)))
+      (bitOr (bitOr (bitOr (slotAt xs (i + 4)) (slotAt xs (i + 5))) (slotAt xs (i + 6))) (slotAt xs (i + 7)))
+      ≡ 0
       → AllGaps xs i (i + 8) (i + 8)
-  eight-bare i t =
-      let two = none _ _ (eqb→eq _ 0 t) in
+  eight-bare i e =
+      let two = none _ _ e in
       bare-all i (i + 8) (omega arith)
       (bare-join i (i + 4) (i + 8) (four-bare i (i + 1) (i + 2) (i + 3) (i + 4) (omega arith) (omega arith) (omega arith) (omega arith) (two .0))
       (four-bare (i + 4) (i + 5) (i + 6) (i + 7) (i + 8) (omega arith) (omega arith) (omega arith) (omega arith) (two .1)))
+
+  -- two eights, the second from j on: they meet or overlap, and their bits together are none
+  pub eights-bare : (i j e x y : ℕ)
+      → i ≤ j
+      → j ≤ i + 8
+      → e ≡ j + 8
+      → (x ≡ 0 → AllGaps xs i (i + 8) (i + 8))
+      → (y ≡ 0 → AllGaps xs j (j + 8) (j + 8))
+      → T (eqb (bitOr x y) 0)
+      → AllGaps xs i e e
+  eights-bare i j e x y p q r a b t =
+      let two = none x y (eqb→eq _ 0 t) in
+      bare-all i e (omega arith)
+      (bare-join i j e (λ k h m. a (two .0) .gaps k h (omega arith)) (λ k h m. b (two .1) .gaps k h (omega arith)))

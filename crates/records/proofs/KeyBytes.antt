@@ -1,10 +1,11 @@
--- The key of a record from its eight bytes, four and four.
-use mathlib.Core.Path.{_≡_}
+-- The key of a record from its eight bytes, four and four, and the card from its four.
+use mathlib.Core.Path.{_≡_, refl, sym, _∙_}
 use mathlib.Core.List.{List, [], _∷_}
 use Prim.Native.Nat.{ℕ, _+_, _*_, _≤_}
 use native.Mathlib.Omega.{arith}
-use lib.ListN.{length, getD}
-use Rattle.rules.specs.Runs.{keyOf}
+use lib.ListN.{length, take, drop, getD, length-drop}
+use lib.Seq.{getD-drop}
+use Rattle.rules.specs.Runs.{highFirst, keyOf, cardOf}
 
 abbrev quad : ℕ → ℕ → ℕ → ℕ → ℕ
 quad a b c d = ((a * 256 + b) * 256 + c) * 256 + d
@@ -24,3 +25,16 @@ key-bytes (x ∷ y ∷ z ∷ a ∷ b ∷ c ∷ d ∷ []) h l n p q = absurd (ome
 key-bytes (x ∷ y ∷ z ∷ a ∷ b ∷ c ∷ d ∷ e ∷ []) h l n p q = absurd (omega arith)
 key-bytes (x ∷ y ∷ z ∷ a ∷ b ∷ c ∷ d ∷ e ∷ f ∷ []) h l n p q = absurd (omega arith)
 key-bytes (x ∷ y ∷ z ∷ a ∷ b ∷ c ∷ d ∷ e ∷ f ∷ g ∷ []) h l n p q = absurd (omega arith)
+
+-- four bytes, high byte first
+four-first : (bs : List ℕ) → 4 ≤ length bs → quad (getD bs 0 0) (getD bs 1 0) (getD bs 2 0) (getD bs 3 0) ≡ highFirst 0 (take 4 bs)
+four-first (a ∷ b ∷ c ∷ d ∷ bs) n = omega arith
+four-first [] n = absurd (omega arith)
+four-first (a ∷ []) n = absurd (omega arith)
+four-first (a ∷ b ∷ []) n = absurd (omega arith)
+four-first (a ∷ b ∷ c ∷ []) n = absurd (omega arith)
+
+pub card-bytes : (bs : List ℕ) (v : ℕ) → 15 ≤ length bs → v ≡ quad (getD bs 11 0) (getD bs 12 0) (getD bs 13 0) (getD bs 14 0) → v ≡ cardOf bs
+card-bytes bs v n p =
+    p ∙ sym (rw (getD-drop 11 bs 0 0, getD-drop 11 bs 1 0, getD-drop 11 bs 2 0, getD-drop 11 bs 3 0) refl)
+    ∙ four-first (drop 11 bs) (omega (arith, length-drop 11 bs))

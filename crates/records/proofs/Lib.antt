@@ -1,3 +1,4 @@
 pub mod KeyBytes
+pub mod Reading
 pub mod RecordBytes
 pub mod Single

@@ -15,6 +15,11 @@ pub over-two : (ws : List ℕ) (a b : ℕ) → 2 ≤ length ws → set (over (a 
 over-two [] a b h = absurd (omega arith)
 over-two (w ∷ ws) a b h = ap (λ (r : List ℕ). a ∷ r) (over-one ws b (omega arith))
 
+-- the third, after these two
+pub over-three : (ws : List ℕ) (a b c : ℕ) → 3 ≤ length ws → set (over (a ∷ b ∷ []) ws) 2 c ≡ over (a ∷ b ∷ c ∷ []) ws
+over-three [] a b c h = absurd (omega arith)
+over-three (w ∷ ws) a b c h = ap (λ (r : List ℕ). a ∷ r) (over-two ws b c (omega arith))
+
 pub over-four : (ws : List ℕ) (a b c d : ℕ) → 4 ≤ length ws → set (set (set (set ws 0 a) 1 b) 2 c) 3 d ≡ over (a ∷ b ∷ c ∷ d ∷ []) ws
 over-four [] a b c d h = absurd (omega arith)
 over-four (w ∷ []) a b c d h = absurd (omega arith)

@@ -30,6 +30,17 @@ pub fn tell_two(told: Told, reply: &mut [u64]) -> u64
     number
 }
 
+// A reply of three words.
+pub fn tell_three(told: Told, reply: &mut [u64]) -> u64
+    requires { ⌜ 3 ≤ length (now reply) ⌝ }
+    ensures number { λ r. ⌜ r ≡ told .number ⌝ }
+    ensures words { λ _. ⌜ now (reply .exit) ≡ over (told .first ∷ told .second ∷ told .third ∷ []) (now (reply .entry)) ⌝ }
+{
+    let number = tell_two(told, reply);
+    reply[2] = told.third;
+    number
+}
+
 // A run's: records worked, records refused, moves, and the byte place.
 pub fn tell_tally(tally: Tally, reply: &mut [u64])
     requires { ⌜ 4 ≤ length (now reply) ⌝ }

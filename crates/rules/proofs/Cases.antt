@@ -4,3 +4,4 @@ pub mod OwnCases
 pub mod SecondCases
 pub mod RefusalCases
 pub mod TableCases
+pub mod CardCases

@@ -1,4 +1,5 @@
 pub mod Sharing
+pub mod Cards
 pub mod Cases
 pub mod Sweeping
 pub mod Requests

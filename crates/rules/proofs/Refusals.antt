@@ -4,6 +4,7 @@ pub mod Refused
 pub mod RowsInOrder
 pub mod Rows
 pub mod Row4
+pub mod Row13
 pub mod Row14
 pub mod Numbers
 pub mod Told

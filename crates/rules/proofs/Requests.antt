@@ -2,8 +2,10 @@
 pub mod Accepted
 pub mod Moved
 pub mod KeysKept
+pub mod CardsKept
 pub mod StaysGood
 pub mod Checked
+pub mod CardsChecked
 pub mod Tabled
 pub mod Shown
 pub mod SingleCalls

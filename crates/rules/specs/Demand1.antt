@@ -1,13 +1,13 @@
--- Demand 1. Every call checks what it is lent. A refused request gives its number and zero moves and changes neither list, table, forecast
--- nor output; a run that stops keeps exactly the requests worked before the stop.
-use Prim.Native.Nat.{ℕ, _+_, _-_, _*_, _≤_}
+-- Demand 1. Every call checks what it is lent. A refused request gives its number and zero moves and changes neither list, cards, table,
+-- forecast nor outputs; a run that stops keeps exactly the requests worked before the stop.
+use Prim.Native.Nat.{ℕ, _+_, _-_, _≤_}
 use mathlib.Core.Path.{_≡_}
 use mathlib.Core.Bool.{false}
 use mathlib.Core.Logic.{_≢_, _↔_}
-use mathlib.Core.List.{List, [], _∷_, _++_}
+use mathlib.Core.List.{List, [], _∷_, _++_, map}
 use lib.Dec.{ltb}
 use lib.ListN.{length, take}
-use Rattle.lists.specs.Lists.{All}
+use Rattle.lists.specs.Lists.{All, total}
 use Rattle.forecast.specs.declared.Forecast.{Forecast}
 use Rattle.forecast.specs.Tidy.{Roomy}
 use Rattle.rules.specs.declared.Request.{Request}
@@ -16,10 +16,10 @@ use Rattle.rules.specs.declared.Totals.{Totals}
 use Rattle.rules.specs.Placing.{outcome}
 use Rattle.rules.specs.Looking.{notFound}
 use Rattle.rules.specs.declared.Tally.{Tally}
-use Rattle.rules.specs.Runs.{one, recordsOf, added}
+use Rattle.rules.specs.Runs.{one, Record, recordsOf, added}
 use Rattle.rules.specs.Checks.{sharesOf, check}
 use Rattle.rules.specs.Lent.{Lent}
-use Rattle.rules.specs.Calls.{roomOf, make, notMade, lookup, scan, request, insert, delete, unchanged, Worked, stoppedAtOnce, run}
+use Rattle.rules.specs.Calls.{roomOf, make, notMade, lookup, scan, Called, request, insert, delete, unchanged, Worked, stoppedAtOnce, run}
 use Rattle.rules.specs.Rows.{Tells, NoneOf, makeRows, readRows, bothRows, lookupRows, insertRows, deleteRows, stopRows}
 
 -- EACH NUMBER IS GIVEN EXACTLY WHEN ITS ROW APPLIES AND NONE BEFORE IT DOES
@@ -29,7 +29,7 @@ MakeTells = (profile : ℕ) (L : Lent) → Tells (makeRows profile L) (make prof
 abbrev pub CheckTells : Type 0
 CheckTells = (profile : ℕ) (L : Lent) (F : Forecast) → Roomy F → Tells (bothRows profile L F) (check profile L F)
 
--- Check gives 0 exactly when none of 15, 1 to 4 and 14 applies.
+-- Check gives 0 exactly when none of 15, 1, 12, 2, 13, 3, 4 and 14 applies.
 abbrev pub CheckPasses : Type 0
 CheckPasses = (profile : ℕ) (L : Lent) (F : Forecast) → Roomy F → (check profile L F ≡ 0) ↔ NoneOf (bothRows profile L F)
 
@@ -37,15 +37,15 @@ abbrev pub LookupTells : Type 0
 LookupTells = (profile : ℕ) (L : Lent) (y : ℕ) → Tells (lookupRows profile L y) (lookup profile L y .number)
 
 abbrev pub ScanTells : Type 0
-ScanTells = (profile : ℕ) (L : Lent) (a : ℕ) (out : List ℕ) → Tells (readRows profile L) (scan profile L a out .number)
+ScanTells = (profile : ℕ) (L : Lent) (a : ℕ) (out cards : List ℕ) → Tells (readRows profile L) (scan profile L a out cards .number)
 
 abbrev pub InsertTells : Type 0
-InsertTells = (profile : ℕ) (L : Lent) (F : Forecast) (y : ℕ) → Roomy F → Tells (insertRows profile L F y) (insert profile L F y .answer .number)
+InsertTells = (profile : ℕ) (L : Lent) (F : Forecast) (y v : ℕ) → Roomy F → Tells (insertRows profile L F y) (insert profile L F y v .answer .number)
 
 abbrev pub DeleteTells : Type 0
 DeleteTells = (profile : ℕ) (L : Lent) (F : Forecast) (y : ℕ) → Roomy F → Tells (deleteRows profile L F y) (delete profile L F y .answer .number)
 
--- A run is refused by 15, 1 to 4 and 14 as check tells. Else it stops at its place by 9 or 10, or at the end of the bytes.
+-- A run is refused by 15, 1 to 4 and 12 to 14 as check tells. Else it stops at its place by 9 or 10, or at the end of the bytes.
 abbrev pub RunTells : Type 0
 RunTells = (profile : ℕ) (L : Lent) (F : Forecast) (bytes : List ℕ) (allowance : ℕ) (T : Totals) → check profile L F ≡ 0
     → Tells (stopRows profile bytes allowance (run profile L F bytes allowance T)) (run profile L F bytes allowance T .reply .stop)
@@ -54,15 +54,15 @@ RunTells = (profile : ℕ) (L : Lent) (F : Forecast) (bytes : List ℕ) (allowan
 
 -- WHAT A REFUSAL LEAVES
 abbrev pub RequestRefused : Type 0
-RequestRefused = (profile : ℕ) (q : Request) (L : Lent) (F : Forecast) → request profile q L F .answer .number ≢ 0
-    → request profile q L F ≡ unchanged L F (request profile q L F .answer .number)
+RequestRefused = (profile : ℕ) (q : Request) (v : ℕ) (L : Lent) (F : Forecast) → request profile q v L F .answer .number ≢ 0
+    → request profile q v L F ≡ unchanged L F (request profile q v L F .answer .number)
 
 abbrev pub LookupRefused : Type 0
 LookupRefused = (profile : ℕ) (L : Lent) (y : ℕ) → lookup profile L y .number ≢ 0 → lookup profile L y ≡ notFound (lookup profile L y .number)
 
 abbrev pub ScanRefused : Type 0
-ScanRefused = (profile : ℕ) (L : Lent) (a : ℕ) (out : List ℕ) → scan profile L a out .number ≢ 0
-    → scan profile L a out ≡ record { number = scan profile L a out .number; written = 0; more = false; output = out }
+ScanRefused = (profile : ℕ) (L : Lent) (a : ℕ) (out cards : List ℕ) → scan profile L a out cards .number ≢ 0
+    → scan profile L a out cards ≡ record { number = scan profile L a out cards .number; written = 0; more = false; output = out; cards = cards }
 
 abbrev pub MakeRefused : Type 0
 MakeRefused = (profile : ℕ) (L : Lent) → make profile L .number ≢ 0 → make profile L ≡ notMade L (make profile L .number)
@@ -91,42 +91,44 @@ pub record Series : Type 0 where
   pub moves : ℕ
   pub sweeps : ℕ
 
-abbrev pub next : ℕ → Request → Series → Series
-next profile q s = record {
-  lent = request profile q (s .lent) (s .forecast) .lent;
-  forecast = request profile q (s .lent) (s .forecast) .forecast;
-  refused = s .refused + one (ltb 0 (request profile q (s .lent) (s .forecast) .answer .number));
-  moves = s .moves + request profile q (s .lent) (s .forecast) .answer .moves;
-  sweeps = s .sweeps + one (outcome (sharesOf profile (s .lent .slots)) q (roomOf (s .lent .slots) (s .forecast)) .swept);
-}
+abbrev pub next : ℕ → Record → Series → Series
+next profile r s =
+    let c : Called = request profile (r .request) (r .card) (s .lent) (s .forecast) in
+    record {
+      lent = c .lent;
+      forecast = c .forecast;
+      refused = s .refused + one (ltb 0 (c .answer .number));
+      moves = s .moves + c .answer .moves;
+      sweeps = s .sweeps + one (outcome (sharesOf profile (s .lent .slots)) (r .request) (roomOf (s .lent .slots) (s .forecast)) .swept);
+    }
 
-abbrev pub singly : ℕ → List Request → Series → Series
+abbrev pub singly : ℕ → List Record → Series → Series
 singly profile [] s = s
-singly profile (q ∷ qs) s = singly profile qs (next profile q s)
+singly profile (r ∷ rs) s = singly profile rs (next profile r s)
 
 abbrev pub begin : Lent → Forecast → Series
 begin L F = record { lent = L; forecast = F; refused = 0; moves = 0; sweeps = 0 }
 
--- What the requests come to, counted as a run counts.
-abbrev pub counted : List Request → Series → Tally
-counted qs s = record { worked = length qs; refused = s .refused; moves = s .moves; sweeps = s .sweeps; place = 11 * length qs }
+-- What the records come to, counted as a run counts; the place is the bytes of them all.
+abbrev pub counted : List Record → Series → Tally
+counted rs s = record { worked = length rs; refused = s .refused; moves = s .moves; sweeps = s .sweeps; place = total (map (λ r. r .size) rs) }
 
-pub record Equals (T : Totals) (qs : List Request) (s : Series) (W : Worked) : Type 0 where
-  pub good : All (λ q. q ≢ Bad) qs
+pub record Equals (T : Totals) (rs : List Record) (s : Series) (W : Worked) : Type 0 where
+  pub good : All (λ r. r .request ≢ Bad) rs
   pub lent : W .lent ≡ s .lent
   pub forecast : W .forecast ≡ s .forecast
-  pub tally : W .reply .tally ≡ counted qs s
-  pub totals : W .totals ≡ added T (counted qs s)
+  pub tally : W .reply .tally ≡ counted rs s
+  pub totals : W .totals ≡ added T (counted rs s)
 
 abbrev pub RunIsSingly : Type 0
 RunIsSingly = (profile : ℕ) (L : Lent) (F : Forecast) (bytes : List ℕ) (allowance : ℕ) (T : Totals) → Roomy F → check profile L F ≡ 0
-    → (qs : List Request) → qs ≡ take (run profile L F bytes allowance T .reply .tally .worked) (recordsOf bytes)
-    → Equals T qs (singly profile qs (begin L F)) (run profile L F bytes allowance T)
+    → (rs : List Record) → rs ≡ take (run profile L F bytes allowance T .reply .tally .worked) (recordsOf bytes)
+    → Equals T rs (singly profile rs (begin L F)) (run profile L F bytes allowance T)
 
 -- VALID STAYS VALID
 abbrev pub RequestKeeps : Type 0
-RequestKeeps = (profile : ℕ) (q : Request) (L : Lent) (F : Forecast) → check profile L F ≡ 0
-    → (check profile (request profile q L F .lent) (request profile q L F .forecast) ≡ 0) × (length (request profile q L F .lent .slots) ≡ length (L .slots))
+RequestKeeps = (profile : ℕ) (q : Request) (v : ℕ) (L : Lent) (F : Forecast) → check profile L F ≡ 0
+    → (check profile (request profile q v L F .lent) (request profile q v L F .forecast) ≡ 0) × (length (request profile q v L F .lent .slots) ≡ length (L .slots))
 
 abbrev pub RunKeeps : Type 0
 RunKeeps = (profile : ℕ) (L : Lent) (F : Forecast) (bytes : List ℕ) (allowance : ℕ) (T : Totals) → check profile L F ≡ 0

@@ -3,6 +3,7 @@ pub mod Profiles
 pub mod Shares
 pub mod Placing
 pub mod SharingOut
+pub mod Cards
 pub mod Looking
 pub mod Runs
 pub mod Lent

@@ -1,12 +1,12 @@
--- A plain sorted set of at most `most` keys, and how it answers. It uses nothing of the rules.
+-- A plain sorted set of at most `most` keys, each with its card, and how it answers. It uses nothing of the rules.
 use Prim.Native.Nat.{ℕ}
 use mathlib.Core.Bool.{Bool, true, false, _&&_}
-use mathlib.Core.List.{List, [], _∷_, _++_}
+use mathlib.Core.List.{List, [], _∷_, _++_, map}
 use lib.Dec.{leb, ltb, eqb}
 use lib.ListN.{length, take, drop}
 use Rattle.lists.specs.Choice.{if_then_else_}
 
--- A set is a strictly rising list of numbers.
+-- A set of keys is a strictly rising list of numbers.
 abbrev pub has : ℕ → List ℕ → Bool
 has y [] = false
 has y (k ∷ ks) = if eqb y k then true else has y ks
@@ -23,22 +23,37 @@ abbrev pub beyond : ℕ → List ℕ → List ℕ
 beyond a [] = []
 beyond a (k ∷ ks) = let rest = beyond a ks in if ltb a k then k ∷ rest else rest
 
--- What is asked, and what is told. A scan is asked with the output that is lent.
+-- A set of keys with their cards: the keys, and the card of each. (Of a number that is no key of it the card says nothing.)
+pub record Events : Type 0 where
+  pub keys : List ℕ
+  pub card : ℕ → ℕ
+
+abbrev pub empty : Events
+empty = record { keys = []; card = λ k. 0 }
+
+abbrev pub gain : ℕ → ℕ → Events → Events
+gain y v E = record { keys = add y (E .keys); card = λ k. if eqb k y then v else E .card k }
+
+abbrev pub lose : ℕ → Events → Events
+lose y E = record { keys = remove y (E .keys); card = E .card }
+
+-- What is asked, and what is told. A scan is asked with the two outputs that are lent.
 pub data Ask : Type 0 where
-  Insert : ℕ → Ask
+  -- the key, and the card that comes with it
+  Insert : ℕ → ℕ → Ask
   Delete : ℕ → Ask
   Lookup : ℕ → Ask
-  Scan : ℕ → List ℕ → Ask
+  Scan : ℕ → List ℕ → List ℕ → Ask
 
 pub data Told : Type 0 where
   -- the number
   Inserted : ℕ → Told
   -- the number, and sparse
   Deleted : ℕ → Bool → Told
-  -- the number, and present
-  Found : ℕ → Bool → Told
-  -- the number, how many are written, whether more remain, and the output
-  Scanned : ℕ → ℕ → Bool → List ℕ → Told
+  -- the number, present, and the card
+  Found : ℕ → Bool → ℕ → Told
+  -- the number, how many are written, whether more remain, and the two outputs
+  Scanned : ℕ → ℕ → Bool → List ℕ → List ℕ → Told
 
 -- How a set of at most `most` keys answers; with fewer than `few` it is sparse.
 abbrev pub insertNumber : ℕ → ℕ → List ℕ → ℕ
@@ -47,26 +62,27 @@ insertNumber most y ks = if eqb y 0 then 5 else if has y ks then 6 else if leb m
 abbrev pub deleteNumber : ℕ → List ℕ → ℕ
 deleteNumber y ks = if eqb y 0 then 5 else if has y ks then 0 else 7
 
-abbrev pub told : ℕ → ℕ → Ask → List ℕ → Told
-told most few (Insert y) ks = Inserted (insertNumber most y ks)
-told most few (Delete y) ks = Deleted (deleteNumber y ks) (eqb (deleteNumber y ks) 0 && ltb (length (remove y ks)) few)
-told most few (Lookup y) ks = if eqb y 0 then Found 5 false else Found 0 (has y ks)
-told most few (Scan a out) ks =
-    let found : List ℕ = beyond a ks in
-    let page : List ℕ = take (length out) found in
-    Scanned 0 (length page) (ltb (length page) (length found)) (page ++ drop (length page) out)
+abbrev pub told : ℕ → ℕ → Ask → Events → Told
+told most few (Insert y v) E = Inserted (insertNumber most y (E .keys))
+told most few (Delete y) E = Deleted (deleteNumber y (E .keys)) (eqb (deleteNumber y (E .keys)) 0 && ltb (length (remove y (E .keys))) few)
+told most few (Lookup y) E = if eqb y 0 then Found 5 false 0 else if has y (E .keys) then Found 0 true (E .card y) else Found 0 false 0
+told most few (Scan a out cards) E =
+    let found : List ℕ = beyond a (E .keys) in
+    let page : List ℕ = take (length cards) (take (length out) found) in
+    Scanned 0 (length page) (ltb (length page) (length found)) (page ++ drop (length page) out) (map (E .card) page ++ drop (length page) cards)
 
-abbrev pub after : ℕ → Ask → List ℕ → List ℕ
-after most (Insert y) ks = if eqb (insertNumber most y ks) 0 then add y ks else ks
-after most (Delete y) ks = if eqb (deleteNumber y ks) 0 then remove y ks else ks
-after most (Lookup y) ks = ks
-after most (Scan a out) ks = ks
+-- A key that is there keeps its card.
+abbrev pub after : ℕ → Ask → Events → Events
+after most (Insert y v) E = if eqb (insertNumber most y (E .keys)) 0 then gain y v E else E
+after most (Delete y) E = if eqb (deleteNumber y (E .keys)) 0 then lose y E else E
+after most (Lookup y) E = E
+after most (Scan a out cards) E = E
 
 -- Any sequence: what is told, in order, and the set then.
-abbrev pub allTold : ℕ → ℕ → List Ask → List ℕ → List Told
-allTold most few [] ks = []
-allTold most few (a ∷ asks) ks = told most few a ks ∷ allTold most few asks (after most a ks)
+abbrev pub allTold : ℕ → ℕ → List Ask → Events → List Told
+allTold most few [] E = []
+allTold most few (a ∷ asks) E = told most few a E ∷ allTold most few asks (after most a E)
 
-abbrev pub afterAll : ℕ → List Ask → List ℕ → List ℕ
-afterAll most [] ks = ks
-afterAll most (a ∷ asks) ks = afterAll most asks (after most a ks)
+abbrev pub afterAll : ℕ → List Ask → Events → Events
+afterAll most [] E = E
+afterAll most (a ∷ asks) E = afterAll most asks (after most a E)

@@ -1,4 +1,5 @@
--- Document 01, "Refusal numbers, in order of testing", and document 02's 14 and 15: each row in words about single slots, cells and bytes.
+-- Document 01, "Refusal numbers, in order of testing", and document 02's 12 to 15: each row in words about single slots, cards, cells
+-- and bytes.
 use Prim.Native.Nat.{ℕ, _+_, _*_, _/_, _^_, _≤_, _<_}
 use mathlib.Core.Path.{_≡_}
 use mathlib.Core.Logic.{_⊎_, _≢_}
@@ -13,7 +14,7 @@ use Rattle.cells.specs.Cells.{zeroCell}
 use Rattle.forecast.specs.declared.Forecast.{Forecast}
 use Rattle.forecast.specs.Cells.{cells}
 use Rattle.rules.specs.Profiles.{profileOf, most}
-use Rattle.rules.specs.Runs.{requestOf}
+use Rattle.rules.specs.Runs.{Record, recordOf}
 use Rattle.rules.specs.Lent.{Lent}
 use Rattle.rules.specs.Calls.{request, Worked}
 
@@ -40,6 +41,10 @@ row15 profile = record { no = 15; when = (profile ≢ 1) × (profile ≢ 2) }
 abbrev pub row1 : List ℕ → Row
 row1 slots = record { no = 1; when = (h : ℕ) → 1 ≤ h → h ≤ 6 → length slots ≢ 64 * 2 ^ h }
 
+-- 12: card array of another length than its list.
+abbrev pub row12 : Lent → Row
+row12 L = record { no = 12; when = length (L .cards) ≢ length (L .slots) }
+
 -- 2: keys not strictly rising, or a key after a gap in a segment.
 abbrev pub NotRisingAt : List ℕ → ℕ → ℕ → Type 0
 NotRisingAt slots i j = (i < j) × (slotAt slots i ≢ 0) × (slotAt slots j ≢ 0) × (slotAt slots j ≤ slotAt slots i)
@@ -49,6 +54,10 @@ AfterGapAt slots i j = (i < j) × (i / 64 ≡ j / 64) × (slotAt slots i ≡ 0) 
 
 abbrev pub row2 : List ℕ → Row
 row2 slots = record { no = 2; when = ((i : ℕ) × (j : ℕ) × NotRisingAt slots i j) ⊎ ((i : ℕ) × (j : ℕ) × AfterGapAt slots i j) }
+
+-- 13: a card in a gap.
+abbrev pub row13 : Lent → Row
+row13 L = record { no = 13; when = (i : ℕ) × (i < length (L .slots)) × (slotAt (L .slots) i ≡ 0) × (getD (L .cards) i 0 ≢ 0) }
 
 -- 3: over 32 × 2^h keys; in the second profile over 44 × 2^h.
 abbrev pub row3 : ℕ → List ℕ → Row
@@ -116,12 +125,13 @@ row7 slots y = record { no = 7; when = ¬ (PresentIn slots y) }
 abbrev pub row8 : ℕ → List ℕ → Row
 row8 profile slots = record { no = 8; when = (h : ℕ) × (length slots ≡ 64 * 2 ^ h) × (most (profileOf profile) * 2 ^ h ≤ length (live slots)) }
 
--- 9: run: short record, wrong mark or wrong kind, at byte place p.
+-- 9: run: short record (under 11 bytes; of kind 4 under 15), wrong mark or wrong kind, at byte place p.
 pub data BadRecord (bytes : List ℕ) (p : ℕ) : Type 0 where
   short : length bytes < p + 11 → BadRecord bytes p
+  shortCard : getD bytes (p + 2) 0 ≡ 4 → length bytes < p + 15 → BadRecord bytes p
   firstMark : getD bytes p 0 ≢ 0xA5 → BadRecord bytes p
   secondMark : getD bytes (p + 1) 0 ≢ 0x5A → BadRecord bytes p
-  wrongKind : getD bytes (p + 2) 0 ≢ 1 → getD bytes (p + 2) 0 ≢ 2 → BadRecord bytes p
+  wrongKind : getD bytes (p + 2) 0 ≢ 1 → getD bytes (p + 2) 0 ≢ 2 → getD bytes (p + 2) 0 ≢ 4 → BadRecord bytes p
 
 abbrev pub row9 : List ℕ → ℕ → Row
 row9 bytes p = record { no = 9; when = (p < length bytes) × BadRecord bytes p }
@@ -131,22 +141,23 @@ abbrev pub row10 : ℕ → List ℕ → ℕ → Worked → Row
 row10 profile bytes allowance W = record {
   no = 10;
   when =
+      let r : Record = recordOf (drop (W .reply .tally .place) bytes) in
       (W .reply .tally .place < length bytes)
-      × (allowance < W .reply .tally .moves + request profile (requestOf (drop (W .reply .tally .place) bytes)) (W .lent) (W .forecast) .answer .moves);
+      × (allowance < W .reply .tally .moves + request profile (r .request) (r .card) (W .lent) (W .forecast) .answer .moves);
 }
 
--- THE ROWS OF EACH CALL, in order of testing: of the list, of all that is lent with and without a forecast, then the call's own.
-abbrev pub listRows : ℕ → List ℕ → List Row
-listRows profile slots = row15 profile ∷ row1 slots ∷ row2 slots ∷ row3 profile slots ∷ []
+-- THE ROWS OF EACH CALL, in order of testing: of the list and its cards, of all that is lent with and without a forecast, then the call's own.
+abbrev pub listRows : ℕ → Lent → List Row
+listRows profile L = row15 profile ∷ row1 (L .slots) ∷ row12 L ∷ row2 (L .slots) ∷ row13 L ∷ row3 profile (L .slots) ∷ []
 
 abbrev pub makeRows : ℕ → Lent → List Row
-makeRows profile L = row15 profile ∷ row1 (L .slots) ∷ row14Size L ∷ []
+makeRows profile L = row15 profile ∷ row1 (L .slots) ∷ row12 L ∷ row14Size L ∷ []
 
 abbrev pub readRows : ℕ → Lent → List Row
-readRows profile L = listRows profile (L .slots) ++ (row14 L ∷ [])
+readRows profile L = listRows profile L ++ (row14 L ∷ [])
 
 abbrev pub bothRows : ℕ → Lent → Forecast → List Row
-bothRows profile L F = listRows profile (L .slots) ++ (row4 (L .slots) F ∷ row14 L ∷ [])
+bothRows profile L F = listRows profile L ++ (row4 (L .slots) F ∷ row14 L ∷ [])
 
 abbrev pub lookupRows : ℕ → Lent → ℕ → List Row
 lookupRows profile L y = readRows profile L ++ (row5 y ∷ [])

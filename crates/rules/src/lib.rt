@@ -6,11 +6,14 @@ pub enum Profile {
     Second,
 }
 
-// Why a call, a request or a record is refused: a variant for each number of the documents, in order of testing: 15, 1 to 4, 14, 5 to 10.
+// Why a call, a request or a record is refused: a variant for each number of the documents, in order of testing: 15, 1, 12, 2, 13,
+// 3, 4, 14, 5 to 10.
 pub enum Refusal {
     UnknownProfile,
     WrongLength,
+    WrongCards,
     WrongOrder,
+    CardInGap,
     TooManyKeys,
     WrongForecast,
     WrongTable,
@@ -33,6 +36,13 @@ pub enum Request {
     Insert(u64),
     Delete(u64),
     Bad,
+}
+
+// A request record: what it asks for, the card that comes with it, and its number of bytes.
+pub struct Record {
+    pub request: Request,
+    pub card: u32,
+    pub size: usize,
 }
 
 // The four totals of runs, each modulo 2^32.

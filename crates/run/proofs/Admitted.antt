@@ -9,7 +9,8 @@ use lib.ListN.{length}
 use Rattle.slots.specs.Segments.{heightOf, render}
 use Rattle.forecast.specs.declared.Forecast.{Forecast}
 use Rattle.rules.specs.declared.Totals.{Totals}
-use Rattle.rules.specs.Lent.{Lent, rightTable, tabled}
+use Rattle.rules.specs.Cards.{cardsBeside}
+use Rattle.rules.specs.Lent.{Lent, cardsOf, rightTable, laid}
 use Rattle.rules.specs.Checks.{check}
 use Rattle.rules.specs.Calls.{Worked, stoppedAtOnce, worked, run}
 use Rattle.rules.specs.Runs.{added}
@@ -30,16 +31,18 @@ abbrev runOf : Totals → steps.Worked → Run
 runOf T r = record { reply = record { forecast = r .forecast; tally = r .tally; stop = r .stop }; totals = added T (r .tally) }
 
 module _ (profile : ℕ) (L : Lent) (F : Forecast) (bytes : List ℕ) (allowance : ℕ) (T : Totals) (r : steps.Worked) (left : Lent) where
-  -- the slots that are left, and the table, which is right for them
-  lent-ended : check profile L F ≡ 0 → Ends profile (L .slots) F bytes allowance r (left .slots) (left .table)
-      → left ≡ tabled (render 0 (whole profile (L .slots) F bytes allowance .room .segments))
+  -- the slots that are left, with the card of each key, and the table, which is right for them
+  lent-ended : check profile L F ≡ 0 → Ends profile (L .slots) (cardsOf L) F bytes allowance r left
+      → left ≡ laid (whole profile (L .slots) (cardsOf L) F bytes allowance .cards) (render 0 (whole profile (L .slots) (cardsOf L) F bytes allowance .room .segments))
   lent-ended c e =
       let b = room-passes profile L F c in
       let h = checked profile (L .slots) F b in
-      let right : left .table ≡ rightTable (render 0 (whole profile (L .slots) F bytes allowance .room .segments)) =
+      let right : left .table ≡ rightTable (render 0 (whole profile (L .slots) (cardsOf L) F bytes allowance .room .segments)) =
       e .table-left
-      ∙ sym (table-render profile (checked-known profile (L .slots) F b) (heightOf (length (L .slots))) (h .0) (h .1) (whole profile (L .slots) F bytes allowance .room) (good-ran profile L F bytes allowance T c)) in
-      λ i. record { slots = e .slots-left i; table = right i }
+      ∙ sym (table-render profile (checked-known profile (L .slots) F b) (heightOf (length (L .slots))) (h .0) (h .1) (whole profile (L .slots) (cardsOf L) F bytes allowance .room) (good-ran profile L F bytes allowance T c)) in
+      let beside : left .cards ≡ cardsBeside (whole profile (L .slots) (cardsOf L) F bytes allowance .cards) (render 0 (whole profile (L .slots) (cardsOf L) F bytes allowance .room .segments)) =
+      e .cards-left ∙ ap (cardsBeside (whole profile (L .slots) (cardsOf L) F bytes allowance .cards)) (e .slots-left) in
+      λ i. record { slots = e .slots-left i; cards = beside i; table = right i }
 
   -- refused by its check: nothing is added
   run-stopped : Reading T → check profile L F ≢ 0 → Refuses profile L F r left → RunAdmits profile L F bytes allowance T (runOf T r) left
@@ -54,10 +57,10 @@ module _ (profile : ℕ) (L : Lent) (F : Forecast) (bytes : List ℕ) (allowance
       }
 
   -- or it works the records
-  run-ended : check profile L F ≡ 0 → Ends profile (L .slots) F bytes allowance r (left .slots) (left .table) → RunAdmits profile L F bytes allowance T (runOf T r) left
+  run-ended : check profile L F ≡ 0 → Ends profile (L .slots) (cardsOf L) F bytes allowance r left → RunAdmits profile L F bytes allowance T (runOf T r) left
   run-ended c e =
-      let w : run profile L F bytes allowance T ≡ worked T (whole profile (L .slots) F bytes allowance) = run-checked profile L F bytes allowance T c in
-      let ended : left ≡ worked T (whole profile (L .slots) F bytes allowance) .lent = lent-ended c e in
+      let w : run profile L F bytes allowance T ≡ worked T (whole profile (L .slots) (cardsOf L) F bytes allowance) = run-checked profile L F bytes allowance T c in
+      let ended : left ≡ worked T (whole profile (L .slots) (cardsOf L) F bytes allowance) .lent = lent-ended c e in
       record {
         tally = e .tally ∙ sym (ap (λ (z : Worked). z .reply .tally) w);
         stop = e .stop ∙ sym (ap (λ (z : Worked). z .reply .stop) w);

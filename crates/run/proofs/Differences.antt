@@ -7,7 +7,7 @@ use native.Mathlib.Decide.{decLt}
 use native.Mathlib.Omega.{arith}
 use Rattle.forecast.specs.declared.Forecast.{Forecast}
 use Rattle.rules.specs.declared.Totals.{Totals}
-use Rattle.rules.specs.Lent.{Lent}
+use Rattle.rules.specs.Lent.{Lent, cardsOf}
 use Rattle.rules.specs.Checks.{check}
 use Rattle.rules.specs.Calls.{Worked, stoppedAtOnce, worked, run}
 use Rattle.rules.proofs.Running.Runs.{run-refused, run-checked}
@@ -40,6 +40,6 @@ run-differs profile L F bytes allowance T r left h a =
           differs profile L F bytes allowance T r left a (stoppedAtOnce L F T (check profile L F)) (run-refused profile L F bytes allowance T n) (since-same T h)
       | no p ↦
           let c : check profile L F ≡ 0 = omega arith in
-          differs profile L F bytes allowance T r left a (worked T (whole profile (L .slots) F bytes allowance)) (run-checked profile L F bytes allowance T c)
-          (since-added T (whole profile (L .slots) F bytes allowance .tally) h)
+          differs profile L F bytes allowance T r left a (worked T (whole profile (L .slots) (cardsOf L) F bytes allowance)) (run-checked profile L F bytes allowance T c)
+          (since-added T (whole profile (L .slots) (cardsOf L) F bytes allowance .tally) h)
     ]

@@ -9,7 +9,8 @@ use Rattle.rules.specs.Lent.{Lent}
 use Rattle.rules.specs.Calls as rules
 use Rattle.run.specs.declared.Run.{Run}
 
--- the profile's number, what is lent (slots and table), forecast, bytes, allowance and totals; what it returns; and what is left of slots and table
+-- the profile's number, what is lent (slots, cards and table), forecast, bytes, allowance and totals; what it returns; and what is
+-- left of slots, cards and table
 pub record RunAdmits (profile : ℕ) (L : Lent) (F : Forecast) (bytes : List ℕ) (allowance : ℕ) (T : Totals) (r : Run) (left : Lent) : Type 0 where
   pub tally : r .reply .tally ≡ rules.run profile L F bytes allowance T .reply .tally
   pub stop : verdictNumber (r .reply .stop) ≡ rules.run profile L F bytes allowance T .reply .stop

@@ -16,7 +16,7 @@ pub record Reading (T : Totals) : Type 0 where
   pub moved : T .moved < 2 ^ 32
   pub sweeps : T .sweeps < 2 ^ 32
 
--- The difference d of two readings round a run r is what its reply has counted, modulo 2^32: nothing where it is refused by 15, 1 to 4 or 14.
+-- The difference d of two readings round a run r is what its reply has counted, modulo 2^32: nothing where it is refused by 15, 1 to 4 or 12 to 14.
 pub record Differs (r : Run) (d : Totals) : Type 0 where
   pub worked : d .worked ≡ r .reply .tally .worked % 2 ^ 32
   pub refused : d .refused ≡ r .reply .tally .refused % 2 ^ 32

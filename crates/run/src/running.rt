@@ -11,15 +11,16 @@ use rules::Totals;
 pub fn run_with(
     profile: u64,
     list: &mut [u64],
+    cards: &mut [u32],
     table: &mut [usize],
     forecast: Forecast,
     requests: &[u8],
     allowance: u64,
     totals: Totals,
 ) -> Run
-    ensures { λ r. ⌜ RunAdmits profile (lend (now (list .entry)) (now (table .entry))) forecast (now (requests .entry)) allowance totals r (lend (now (list .exit)) (now (table .exit))) ⌝ }
+    ensures { λ r. ⌜ RunAdmits profile (lend (now (list .entry)) (now (cards .entry)) (now (table .entry))) forecast (now (requests .entry)) allowance totals r (lend (now (list .exit)) (now (cards .exit)) (now (table .exit))) ⌝ }
 {
-    let worked = opening::work_lent(profile, list, table, forecast, requests, allowance);
+    let worked = opening::work_lent(profile, list, cards, table, forecast, requests, allowance);
     let after = worked.forecast;
     let tally = worked.tally;
     let stop = worked.stop;

@@ -1,13 +1,16 @@
--- Keys written into a lent output, stretch by stretch: what is known between two stretches, and where the writing ends.
+-- Keys or cards written into a lent output, stretch by stretch: what is known between two stretches, and where the writing ends.
 use mathlib.Core.Path.{_≡_, refl, sym, ap, ap₂, _∙_}
 use mathlib.Core.Bool.{true, false}
-use mathlib.Core.List.{List, [], _++_}
+use mathlib.Core.List.{List, [], _++_, map, map-append}
 use Prim.Native.Nat.{ℕ, _+_, _≤_, _<_}
 use native.Mathlib.Omega.{arith}
 use borrow.Author.Tests.{lt-ltb, le-ltb}
-use lib.ListN.{length, take, drop, length-append, length-drop}
+use lib.ListN.{length, take, drop, length-append, length-drop, length-map}
 use lib.Seq.{paste, take-all, take-at, drop-at, take-append-le, drop-append-add, take-take, take-add, drop-drop, length-take-le}
-use Rattle.scans.specs.Scans.{Wrote}
+use Rattle.lists.proofs.Maps.{map-take}
+use Rattle.moves.proofs.Natural.{part-kept}
+use Rattle.scans.specs.declared.Written.{Written}
+use Rattle.scans.specs.Scans.{Wrote, cardsOver}
 
 -- w of the keys ks are written into out, which is now left, and the others are a stretch and the later ones
 pub record Halfway (ks out left : List ℕ) (w : ℕ) (stretch later : List ℕ) : Type 0 where
@@ -47,24 +50,35 @@ module _ (ks out left later src : List ℕ) (w n : ℕ) (h : Halfway ks out left
     output = e ∙ copied n (omega arith);
   }
 
-  -- THE OUTPUT IS FULL before the stretch ends
-  pub page-full : (left′ : List ℕ) (room : ℕ) → w + room ≡ length out → room < n → left′ ≡ paste left w src room → Wrote ks out (record { keys = w + room; more = true }) left′
-  page-full left′ room e k q =
-      let long : length (take (length out) ks) ≡ length out = length-take-le (length out) ks (omega (arith, enough)) in
+  -- THE ROOM OF m IS FULL before the stretch ends
+  pub page-full : (left′ : List ℕ) (m room : ℕ) → w + room ≡ m → room < n → left′ ≡ paste left w src room → Wrote m ks out (record { keys = w + room; more = true }) left′
+  page-full left′ m room e k q =
+      let long : length (take m ks) ≡ m = length-take-le m ks (omega (arith, enough)) in
       record {
         written = e ∙ sym long;
-        more = sym (lt-ltb (length (take (length out) ks)) (length ks) (omega (arith, enough)));
+        more = sym (lt-ltb (length (take m ks)) (length ks) (omega (arith, enough)));
         output = q ∙ copied room (omega arith) ∙ ap₂ {C = List ℕ} (λ i j. take i ks ++ drop j out) e (e ∙ sym long);
       }
 
 -- NO KEY IS LEFT
-pub page-ended : {ks out left later : List ℕ} {w : ℕ} → Halfway ks out left w [] later → later ≡ [] → w ≤ length out → Wrote ks out (record { keys = w; more = false }) left
-page-ended {ks} {out} {left} {later} {w} h e k =
+pub page-ended : {ks out left later : List ℕ} {w : ℕ} (m : ℕ) → Halfway ks out left w [] later → later ≡ [] → w ≤ m → Wrote m ks out (record { keys = w; more = false }) left
+page-ended {ks} {out} {left} {later} {w} m h e k =
     let all : w ≡ length ks = omega (arith, h .few, length-drop w ks, ap length (h .rest ∙ e)) in
-    let page : take (length out) ks ≡ ks = take-all (length out) ks (omega arith) in
-    let long : length (take (length out) ks) ≡ length ks = ap length page in
+    let page : take m ks ≡ ks = take-all m ks (omega arith) in
+    let long : length (take m ks) ≡ length ks = ap length page in
     record {
       written = all ∙ sym long;
-      more = sym (le-ltb (length (take (length out) ks)) (length ks) (omega arith));
+      more = sym (le-ltb (length (take m ks)) (length ks) (omega arith));
       output = h .output ∙ ap₂ {C = List ℕ} (λ p j. p ++ drop j out) (take-all w ks (omega arith) ∙ sym page) (all ∙ sym long);
     }
+
+-- THE CARDS of the keys ks are written in the same way
+pub cards-written : (f : ℕ → ℕ) {n : ℕ} (ks : List ℕ) {out left : List ℕ} {r : Written} → Wrote n (map f ks) out r left → left ≡ cardsOver f (take n ks) out
+cards-written f {n} ks {out} h =
+    let e : take n (map f ks) ≡ map f (take n ks) = sym (map-take f n ks) in
+    h .output ∙ ap₂ {C = List ℕ} (λ p j. p ++ drop j out) e (ap length e ∙ length-map (take n ks) f)
+
+pub cards-stretch : (f : ℕ → ℕ) (slots : List ℕ) {cards : List ℕ} → cards ≡ map f slots → (ks later : List ℕ) (n a : ℕ) → ks ≡ take n (drop a slots) ++ later
+    → map f ks ≡ take n (drop a cards) ++ map f later
+cards-stretch f slots h ks later n a e =
+    ap (map f) e ∙ map-append f (take n (drop a slots)) later ∙ ap (λ (p : List ℕ). p ++ map f later) (sym (part-kept f slots h a n))

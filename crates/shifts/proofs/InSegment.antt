@@ -1,10 +1,10 @@
 -- A gap opened and closed in the slots of a segment is a key put in and taken out of its keys: the flat equations carried over.
 use mathlib.Core.Path.{_≡_, ap, ap₂, _∙_}
-use mathlib.Core.List.{List, [], _∷_, _++_}
+use mathlib.Core.List.{List, [], _∷_, _++_, map}
 use Prim.Native.Nat.{ℕ, suc, _+_, _-_, _*_, _≤_, _<_}
 use native.Mathlib.Omega.{arith}
 use lib.ListN.{length, take, drop, replicate, getD, set}
-use borrow.Rule.Slice.PartMut.{putMid}
+use borrow.Rule.Slice.PartMut.{midOf, putMid}
 use Rattle.lists.specs.Lists.{All, insertAt, without, padded}
 use Rattle.lists.proofs.Members.{at-mem}
 use Rattle.lists.proofs.Fill.{length-without, take-padded-all, drop-padded}
@@ -12,6 +12,7 @@ use Rattle.slots.specs.Segments.{pad, render}
 use Rattle.slots.proofs.Carried.{inPart, put-part, in-segment}
 use Rattle.moves.specs.Moves.{opened, closed}
 use Rattle.moves.proofs.Gaps.{length-insertAt}
+use Rattle.moves.proofs.Natural.{opened-kept, closed-kept, part-kept, back-kept}
 
 module _ {A : Type 0} where
   -- in the slots of one segment
@@ -62,3 +63,11 @@ module _ {A : Type 0} (z : A) (ss : List (List A)) (s n a e : ℕ) (l : List A) 
       to-segment (closed z n at) r
       ∙ in-segment z ss s (closed z n at) (without at (getD ss s [])) (x .fits) (x .inside)
       (ap (λ (m : ℕ). closed z m at (pad z (getD ss s []))) (x .held) ∙ closed-pad z (getD ss s []) at (omega (arith, x .held)) (x .fits (getD ss s []) (at-mem ss s [] (x .inside))))
+
+-- the cards c of the slots l, as a lent part of both comes back
+module _ {A B : Type 0} (f : A → B) (l : List A) {c : List B} (h : c ≡ map f l) (a k n at : ℕ) {p : List A} {q : List B} where
+  pub opened-cards : (v : A) (y : B) → f v ≡ y → p ≡ opened n at v (midOf a k l) → q ≡ opened n at y (midOf a k c) → putMid a k c q ≡ map f (putMid a k l p)
+  opened-cards v y e r s = back-kept f l h a k p (opened-kept f (midOf a k l) (part-kept f l h a k) n at v y e r s)
+
+  pub closed-cards : (z : A) (y : B) → f z ≡ y → p ≡ closed z n at (midOf a k l) → q ≡ closed y n at (midOf a k c) → putMid a k c q ≡ map f (putMid a k l p)
+  closed-cards z y e r s = back-kept f l h a k p (closed-kept f (midOf a k l) (part-kept f l h a k) n at z y e r s)

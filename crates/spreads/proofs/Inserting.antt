@@ -65,14 +65,14 @@ module _ {A : Type 0} (v : A) where
 
   -- THE PART of c elements from at on: all after v, all before it, or with it
   module _ (w : List A) (at to c p : ℕ) where
-    pub lay-after : p < at → moved (at - 1) to c w ≡ paste w to (drop at (insertAt p v w)) c
-    lay-after h =
+    pub lay-after : {w′ : List A} → p < at → w′ ≡ moved (at - 1) to c w → w′ ≡ paste w to (drop at (insertAt p v w)) c
+    lay-after h r =
         let e : suc (at - 1) ≡ at = omega arith in
-        ap (λ (d : List A). paste w to d c) (sym (insert-past p (at - 1) w (omega arith)) ∙ ap (λ (n : ℕ). drop n (insertAt p v w)) e)
+        r ∙ ap (λ (d : List A). paste w to d c) (sym (insert-past p (at - 1) w (omega arith)) ∙ ap (λ (n : ℕ). drop n (insertAt p v w)) e)
 
-    pub lay-before : at + c ≤ p → at + c ≤ length w → moved at to c w ≡ paste w to (drop at (insertAt p v w)) c
-    lay-before h k =
-        ap (λ (d : List A). take to w ++ d ++ drop (to + c) w) (part-alike at c (at + c) w (insertAt p v w) (omega arith) (sym (insert-before p (at + c) w h k)))
+    pub lay-before : {w′ : List A} → at + c ≤ p → at + c ≤ length w → w′ ≡ moved at to c w → w′ ≡ paste w to (drop at (insertAt p v w)) c
+    lay-before h k r =
+        r ∙ ap (λ (d : List A). take to w ++ d ++ drop (to + c) w) (part-alike at c (at + c) w (insertAt p v w) (omega arith) (sym (insert-before p (at + c) w h k)))
 
     module _ (h : at ≤ to) (k : to + c ≤ length w) (q : at ≤ p) (i : p - at < c) where
       part-with : take c (drop at (insertAt p v w)) ≡ take (p - at) (drop at w) ++ v ∷ take (c - 1 - (p - at)) (drop p w)
@@ -86,8 +86,8 @@ module _ {A : Type 0} (v : A) where
           ∙ ap (λ (n : ℕ). take n (take x (drop at w) ++ v ∷ drop p w)) e
           ∙ take-append-add (take x (drop at w)) (v ∷ drop p w) (suc (c - 1 - x))
 
-      pub lay-with : moved at to (p - at) (set (moved p (to + (p - at) + 1) (c - 1 - (p - at)) w) (to + (p - at)) v) ≡ paste w to (drop at (insertAt p v w)) c
-      lay-with =
+      with-it : moved at to (p - at) (set (moved p (to + (p - at) + 1) (c - 1 - (p - at)) w) (to + (p - at)) v) ≡ paste w to (drop at (insertAt p v w)) c
+      with-it =
           let x : ℕ = p - at in
           let Q : List A = take x (drop at w) in
           let R : List A = take (c - 1 - x) (drop p w) in
@@ -114,6 +114,10 @@ module _ {A : Type 0} (v : A) where
           ∙ s₃
           ∙ s₄
           ∙ sym (ap (λ (t : List A). take to w ++ t ++ D) part-with)
+
+      pub lay-with : (w₁ : List A) {w₂ : List A} → w₁ ≡ moved p (to + (p - at) + 1) (c - 1 - (p - at)) w → w₂ ≡ moved at to (p - at) (set w₁ (to + (p - at)) v)
+          → w₂ ≡ paste w to (drop at (insertAt p v w)) c
+      lay-with w₁ r₁ r₂ = r₂ ∙ ap (λ (t : List A). moved at to (p - at) (set t (to + (p - at)) v)) r₁ ∙ with-it
 
   -- ONE SEGMENT MORE laid out, from the window w where those from s on are
   pub laid-in : (z : A) (cs : List ℕ) (l w w₁ w₂ : List A) (m p s at : ℕ) → Laying cs l m p s at → w ≡ Laid z cs (take m (insertAt p v l)) l s at

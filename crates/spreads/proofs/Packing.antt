@@ -40,9 +40,9 @@ module _ {A : Type 0} where
       ∙ sym (append-assoc (take c l) (gather (take s cs) (drop 64 l)) (take (getD cs s 0) (drop (64 * suc s) l)))
 
   -- one segment's keys moved behind those that are packed
-  pub pack-step : (cs : List ℕ) (l : List A) (s at : ℕ) → s < length cs → at ≤ 64 * s → length (gather (take s cs) l) ≡ at
+  packed-on : (cs : List ℕ) (l : List A) (s at : ℕ) → s < length cs → at ≤ 64 * s → length (gather (take s cs) l) ≡ at
       → moved (64 * s) at (getD cs s 0) (gather (take s cs) l ++ drop at l) ≡ gather (take (suc s) cs) l ++ drop (at + getD cs s 0) l
-  pack-step cs l s at h k e =
+  packed-on cs l s at h k e =
       let g : List A = gather (take s cs) l in
       let w : List A = g ++ drop at l in
       let c : ℕ = getD cs s 0 in
@@ -50,6 +50,10 @@ module _ {A : Type 0} where
       ∙ ap (λ (t : List A). g ++ take c t ++ drop (at + c) w) (drop-past g l at (64 * s) e k)
       ∙ ap (λ (t : List A). g ++ take c (drop (64 * s) l) ++ t) (drop-past g l at (at + c) e (omega arith))
       ∙ ap (λ (t : List A). t ++ drop (at + c) l) (sym (gather-suc cs s l h))
+
+  pub pack-step : (cs : List ℕ) (l w w′ : List A) (s at : ℕ) → s < length cs → at ≤ 64 * s → length (gather (take s cs) l) ≡ at → w ≡ gather (take s cs) l ++ drop at l
+      → w′ ≡ moved (64 * s) at (getD cs s 0) w → w′ ≡ gather (take (suc s) cs) l ++ drop (at + getD cs s 0) l
+  pack-step cs l w w′ s at h k e r r′ = r′ ∙ ap (moved (64 * s) at (getD cs s 0)) r ∙ packed-on cs l s at h k e
 
   pub gather-length-suc : (cs : List ℕ) (l : List A) (s at : ℕ) → s < length cs → getD cs s 0 ≤ 64 → length l ≡ 64 * length cs → length (gather (take s cs) l) ≡ at
       → length (gather (take (suc s) cs) l) ≡ at + getD cs s 0

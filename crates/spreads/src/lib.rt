@@ -1,5 +1,6 @@
-// The keys of a window of segments, packed at its front and dealt out again, in place.
+// The keys of a window of segments, packed at its front and dealt out again, in place, each with its card.
 ghost use mathlib.Core.Path.{_≡_};
+ghost use mathlib.Core.List.{map};
 ghost use Prim.Native.Nat.{ℕ, _+_, _*_, _-_, _≤_, _<_};
 ghost use lib.ListN.{length, getD, take, drop};
 ghost use lib.Seq.{paste};
@@ -8,16 +9,18 @@ ghost use Rattle.slots.specs.Layout.{render};
 ghost use Rattle.moves.specs.Moves.{Packed};
 
 // The keys of all segments moved to the front of the window, in place; the answer is how many.
-pub fn pack(window: &mut [u64], counts: &[usize]) -> usize
+pub fn pack(window: &mut [u64], cards: &mut [u32], counts: &[usize]) -> usize
     requires { ⌜ length (now window) ≡ 64 * length (now counts) ⌝ }
     requires { ⌜ ((k : ℕ) → getD (now counts) k 0 ≤ 64) ⌝ }
-    ensures { λ r. ⌜ Packed (now (counts .entry)) (now (window .entry)) r (now (window .exit)) ⌝ }
+    requires { ⌜ length (now cards) ≡ length (now window) ⌝ }
+    ensures keys { λ r. ⌜ Packed (now (counts .entry)) (now (window .entry)) r (now (window .exit)) ⌝ }
+    ensures cards { λ _. ⌜ ((f : ℕ → ℕ) → now (cards .entry) ≡ map f (now (window .entry)) → now (cards .exit) ≡ map f (now (window .exit))) ⌝ }
 {
     let mut at = 0;
     let mut s = 0;
     while s < counts.len() {
         let c = counts[s];
-        moves::move_left(window, 64 * s, at, c);
+        moves::move_left(window, cards, 64 * s, at, c);
         at += c;
         s += 1;
     }
@@ -25,11 +28,13 @@ pub fn pack(window: &mut [u64], counts: &[usize]) -> usize
 }
 
 // The first `m` slots dealt out to segments of so many keys each, in place.
-pub fn spread(window: &mut [u64], counts: &[usize], m: usize)
+pub fn spread(window: &mut [u64], cards: &mut [u32], counts: &[usize], m: usize)
     requires { ⌜ length (now window) ≡ 64 * length (now counts) ⌝ }
     requires { ⌜ ((k : ℕ) → getD (now counts) k 0 ≤ 64) ⌝ }
     requires { ⌜ total (now counts) ≡ m ⌝ }
-    ensures { λ _. ⌜ now (window .exit) ≡ render 0 (deal (now (counts .entry)) (take m (now (window .entry)))) ⌝ }
+    requires { ⌜ length (now cards) ≡ length (now window) ⌝ }
+    ensures keys { λ _. ⌜ now (window .exit) ≡ render 0 (deal (now (counts .entry)) (take m (now (window .entry)))) ⌝ }
+    ensures cards { λ _. ⌜ ((f : ℕ → ℕ) → f 0 ≡ 0 → now (cards .entry) ≡ map f (now (window .entry)) → now (cards .exit) ≡ map f (now (window .exit))) ⌝ }
 {
     let mut at = m;
     let mut s = counts.len();
@@ -38,36 +43,59 @@ pub fn spread(window: &mut [u64], counts: &[usize], m: usize)
         let c = counts[s];
         let to = 64 * s;
         at -= c;
-        moves::move_right(window, at, to, c);
-        moves::clear(window, to + c, to + 64);
+        moves::move_right(window, cards, at, to, c);
+        moves::clear(window, cards, to + c, to + 64);
     }
 }
 
-// Copies `c` slots from index `at` on to index `to`, which is no further left, as they are once `key` is put in at index `p`.
-fn lay_in(window: &mut [u64], at: usize, to: usize, c: usize, p: usize, key: u64)
+// Copies `c` slots from index `at` on to index `to`, which is no further left, as they are once `key`, with its card, is put in at
+// index `p`.
+fn lay_in(
+    window: &mut [u64],
+    cards: &mut [u32],
+    at: usize,
+    to: usize,
+    c: usize,
+    p: usize,
+    key: u64,
+    card: u32,
+)
     requires { ⌜ (at ≤ to) × (to + c ≤ length (now window)) ⌝ }
-    ensures { λ _. ⌜ now (window .exit) ≡ paste (now (window .entry)) to (drop at (insertAt p key (now (window .entry)))) c ⌝ }
+    requires { ⌜ length (now cards) ≡ length (now window) ⌝ }
+    ensures keys { λ _. ⌜ now (window .exit) ≡ paste (now (window .entry)) to (drop at (insertAt p key (now (window .entry)))) c ⌝ }
+    ensures cards { λ _. ⌜ ((f : ℕ → ℕ) → f key ≡ card → now (cards .entry) ≡ map f (now (window .entry)) → now (cards .exit) ≡ map f (now (window .exit))) ⌝ }
 {
     if p < at {
-        moves::move_right(window, at - 1, to, c);
+        moves::move_right(window, cards, at - 1, to, c);
         return;
     }
     let x = p - at;
     if x < c {
-        moves::move_right(window, p, to + x + 1, c - 1 - x);
+        moves::move_right(window, cards, p, to + x + 1, c - 1 - x);
         window[to + x] = key;
-        moves::move_right(window, at, to, x);
+        cards[to + x] = card;
+        moves::move_right(window, cards, at, to, x);
         return;
     }
-    moves::move_right(window, at, to, c);
+    moves::move_right(window, cards, at, to, c);
 }
 
-// The first `m` - 1 slots, with `key` put in at place `p`, dealt out to segments of so many keys each, in place.
-pub fn spread_in(window: &mut [u64], counts: &[usize], m: usize, p: usize, key: u64)
+// The first `m` - 1 slots, with `key` and its card put in at place `p`, dealt out to segments of so many keys each, in place.
+pub fn spread_in(
+    window: &mut [u64],
+    cards: &mut [u32],
+    counts: &[usize],
+    m: usize,
+    p: usize,
+    key: u64,
+    card: u32,
+)
     requires { ⌜ length (now window) ≡ 64 * length (now counts) ⌝ }
     requires { ⌜ ((k : ℕ) → getD (now counts) k 0 ≤ 64) ⌝ }
     requires { ⌜ (total (now counts) ≡ m) × (p < m) ⌝ }
-    ensures { λ _. ⌜ now (window .exit) ≡ render 0 (deal (now (counts .entry)) (insertAt p key (take (m - 1) (now (window .entry))))) ⌝ }
+    requires { ⌜ length (now cards) ≡ length (now window) ⌝ }
+    ensures keys { λ _. ⌜ now (window .exit) ≡ render 0 (deal (now (counts .entry)) (insertAt p key (take (m - 1) (now (window .entry))))) ⌝ }
+    ensures cards { λ _. ⌜ ((f : ℕ → ℕ) → f 0 ≡ 0 → f key ≡ card → now (cards .entry) ≡ map f (now (window .entry)) → now (cards .exit) ≡ map f (now (window .exit))) ⌝ }
 {
     let mut at = m;
     let mut s = counts.len();
@@ -76,7 +104,7 @@ pub fn spread_in(window: &mut [u64], counts: &[usize], m: usize, p: usize, key: 
         let c = counts[s];
         let to = 64 * s;
         at -= c;
-        lay_in(window, at, to, c, p, key);
-        moves::clear(window, to + c, to + 64);
+        lay_in(window, cards, at, to, c, p, key, card);
+        moves::clear(window, cards, to + c, to + 64);
     }
 }

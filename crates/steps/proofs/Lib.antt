@@ -1,2 +1,3 @@
 pub mod TurnOf
+pub mod CardTurn
 pub mod MidWork

@@ -9,7 +9,6 @@ use native.Mathlib.Decide.{decLe, decLt}
 use native.Mathlib.Omega.{arith}
 use lib.Dec.{T, ltb}
 use lib.ListN.{length, drop, getD, length-drop, drop-of-length-le}
-use lib.Seq.{drop-drop}
 use Rattle.lists.proofs.Tests.{tested}
 use Rattle.slots.specs.Segments.{keys, segmentsOf, render}
 use Rattle.levels.specs.Tables.{tableOf}
@@ -21,6 +20,7 @@ use Rattle.rules.specs.declared.Verdict.{Verdict}
 use Rattle.rules.specs.declared.Verdict.the-variants.{Refused, Accepted}
 use Rattle.rules.specs.declared.Request.{Request}
 use Rattle.rules.specs.declared.Request.the-variants.{Bad}
+use Rattle.rules.specs.declared.Record.{Record}
 use Rattle.rules.specs.declared.Tally.{Tally}
 use Rattle.rules.specs.Refusals.{verdictNumber}
 use Rattle.rules.specs.Shares.{Shares, shares}
@@ -29,8 +29,12 @@ use Rattle.rules.specs.Profiles.{numberOf}
 use Rattle.rules.specs.Checks.{sharesOf}
 use Rattle.rules.proofs.Sharing.Profiles.{profile-named}
 use Rattle.rules.specs.Calls.{roomOf}
-use Rattle.rules.specs.Runs.{requestOf, isBad, recordsOf, nothing, one, Ran, stopped, ran, work, tallied}
-use Rattle.rules.proofs.Running.Records.{records-nil, records-cons, short-bad, byte-of-record, record-of-byte}
+use Rattle.rules.specs.Cards.{cardAt, cardsBeside, cardsAfter}
+use Rattle.rules.specs.Lent as given
+use Rattle.rules.specs.Runs.{asking, recordOf, isBad, recordsOf, nothing, one, Ran, stopped, ran, work, tallied}
+use Rattle.rules.proofs.Running.Records.{records-nil, records-from, single-record}
+use Rattle.rules.proofs.Running.RecordBytes.{size-some, size-fits}
+use Rattle.rules.proofs.Running.BadRecords.{not-bad}
 use Rattle.rules.proofs.Running.RequestsWorked.{work-end, work-bad, work-over, work-on}
 use Rattle.rules.proofs.Requests.Checked.{slots-shown, forecast-shown}
 use Rattle.shares.specs.declared.Shape.{Shape}
@@ -48,6 +52,7 @@ use Rattle.steps.proofs.TurnOf.{low, bad-is, swept-turn}
 -- what is lent at the start
 pub record Lent : Type 0 where
   pub slots : List ℕ
+  pub cards : List ℕ
   pub forecast : Forecast
   pub bytes : List ℕ
   pub allowance : ℕ
@@ -56,6 +61,7 @@ pub record Lent : Type 0 where
 -- where the work has come to
 pub record Now : Type 0 where
   pub slots : List ℕ
+  pub cards : List ℕ
   pub forecast : Forecast
   pub bounds : List ℕ
   pub table : List ℕ
@@ -68,7 +74,7 @@ abbrev number : Lent → ℕ
 number L = numberOf (L .shape .profile)
 
 abbrev all : Lent → Ran
-all L = whole (number L) (L .slots) (L .forecast) (L .bytes) (L .allowance)
+all L = whole (number L) (L .slots) (cardAt (L .slots) (L .cards)) (L .forecast) (L .bytes) (L .allowance)
 
 abbrev of : Lent → Shares
 of L = sharesAt (L .shape)
@@ -78,65 +84,62 @@ room N = roomOf (N .slots) (N .forecast)
 
 -- the last verdict is that of a single record
 abbrev LastOf : Lent → Verdict → Type 0
-LastOf L last = (q : Request) → recordsOf (L .bytes) ≡ q ∷ [] → verdictNumber last ≡ outcome (sharesOf (number L) (L .slots)) q (roomOf (L .slots) (L .forecast)) .answer .number
+LastOf L last = (a : Record) → recordsOf (L .bytes) ≡ a ∷ []
+    → verdictNumber last ≡ outcome (sharesOf (number L) (L .slots)) (a .request) (roomOf (L .slots) (L .forecast)) .answer .number
+
+-- the bytes of the first record
+abbrev head : Lent → ℕ
+head L = recordOf (L .bytes) .size
 
 pub record Going (L : Lent) (N : Now) : Type 0 where
   pub stands : Stands (N .slots) (N .forecast) (L .shape) (N .keys)
   pub shown : forecastOf (usedCells (N .forecast)) ≡ N .forecast
   pub index : Indexed (segmentsOf (N .slots)) (N .slots) (N .bounds) (N .table)
   pub shares-lent : sharesOf (number L) (L .slots) ≡ of L
-  pub in-bytes : N .tally .place ≤ length (L .bytes)
   pub worked : N .tally .worked ≤ N .tally .place
   pub refused : N .tally .refused ≤ N .tally .worked
   pub sweeps : N .tally .sweeps ≤ N .tally .worked
   pub moves : N .tally .moves ≤ L .allowance
-  pub rest : all L ≡ work (of L) (L .allowance) (recordsOf (drop (N .tally .place) (L .bytes))) (room N) (N .tally)
-  pub first : N .tally .place < 11 → (N .tally .place ≡ 0) × (room N ≡ roomOf (L .slots) (L .forecast))
-  pub single : 11 ≤ N .tally .place → LastOf L (N .last)
+  -- the card of each key
+  pub own : ℕ → ℕ
+  pub beside : N .cards ≡ cardsBeside own (N .slots)
+  pub rest : all L ≡ work (of L) (L .allowance) (recordsOf (drop (N .tally .place) (L .bytes))) (room N) own (N .tally)
+  pub first : N .tally .place < head L → (N .tally .place ≡ 0) × (room N ≡ roomOf (L .slots) (L .forecast))
+  pub single : head L ≤ N .tally .place → LastOf L (N .last)
 
 -- it begins so
-pub going-start : (slots : List ℕ) (F : Forecast) (bytes : List ℕ) (allowance : ℕ) (k : Shape) (bounds table : List ℕ) (n : ℕ) (last : Verdict) → Stands slots F k n
-    → Indexed (segmentsOf slots) slots bounds table → Roomy F
-    → Going (record { slots = slots; forecast = F; bytes = bytes; allowance = allowance; shape = k })
-    (record { slots = slots; forecast = F; bounds = bounds; table = table; keys = n; last = last; tally = nothing })
-unfolding ran
-going-start slots F bytes allowance k bounds table n last s x r = record {
-  stands = s;
-  shown = forecast-shown (numberOf (k .profile)) slots F (s .passes) r;
-  index = x;
-  shares-lent = ap₂ {C = Shares} shares (profile-named (k .profile)) (s .height);
-  in-bytes = omega arith;
-  worked = omega arith;
-  refused = omega arith;
-  sweeps = omega arith;
-  moves = omega arith;
-  rest = ap (λ (S : Shares). work S allowance (recordsOf bytes) (roomOf slots F) nothing) (ap₂ {C = Shares} shares (profile-named (k .profile)) (s .height));
-  first = λ _. (refl, refl);
-  single = λ h. absurd (omega (arith, h));
-}
+module _ (L : Lent) where
+  abbrev start : List ℕ → List ℕ → ℕ → Verdict → Now
+  start bounds table n last = record {
+    slots = L .slots;
+    cards = L .cards;
+    forecast = L .forecast;
+    bounds = bounds;
+    table = table;
+    keys = n;
+    last = last;
+    tally = nothing;
+  }
 
--- the record at a place, and those after it
-records-first : (bs : List ℕ) → 0 < length bs → recordsOf bs ≡ requestOf bs ∷ recordsOf (drop 11 bs)
-records-first [] h = absurd (omega arith)
-records-first (b ∷ bs) h = records-cons b bs
-
-records-from : (p : ℕ) (bs : List ℕ) → p < length bs → recordsOf (drop p bs) ≡ requestOf (drop p bs) ∷ recordsOf (drop (p + 11) bs)
-records-from p bs h =
-    records-first (drop p bs) (omega (arith, length-drop p bs)) ∙ ap (λ (l : List ℕ). requestOf (drop p bs) ∷ recordsOf l) (drop-drop 11 p bs)
-
--- a record that is not bad has its 11 bytes
-whole-record : (bs : List ℕ) → T (not (isBad (requestOf bs))) → 11 ≤ length bs
-whole-record bs g = elim (decLe 11 (length bs)) [ yes h ↦ h | no h ↦ absurd (subst (λ (q : Request). T (not (isBad q))) (short-bad bs (omega arith)) g) ]
-
--- the bytes of a single record: some, and at most 11
-single-long : (bs : List ℕ) (q : Request) → recordsOf bs ≡ q ∷ [] → (0 < length bs) × (length bs ≤ 11)
-single-long bs q e = (omega (arith, byte-of-record 0 bs (omega (arith, many))), long)
-  where
-    many : length (recordsOf bs) ≡ 1
-    many = ap (λ (l : List Request). length l) e
-
-    long : length bs ≤ 11
-    long = elim (decLe (length bs) 11) [ yes h ↦ h | no h ↦ absurd (omega (arith, many, record-of-byte 1 bs (omega arith))) ]
+  pub going-start : (bounds table : List ℕ) (n : ℕ) (last : Verdict) → Stands (L .slots) (L .forecast) (L .shape) n → Indexed (segmentsOf (L .slots)) (L .slots) bounds table
+      → L .cards ≡ cardsBeside (cardAt (L .slots) (L .cards)) (L .slots) → Roomy (L .forecast) → Going L (start bounds table n last)
+  unfolding ran
+  going-start bounds table n last s x b r = record {
+    stands = s;
+    shown = forecast-shown (number L) (L .slots) (L .forecast) (s .passes) r;
+    index = x;
+    shares-lent = ap₂ {C = Shares} shares (profile-named (L .shape .profile)) (s .height);
+    worked = omega arith;
+    refused = omega arith;
+    sweeps = omega arith;
+    moves = omega arith;
+    own = cardAt (L .slots) (L .cards);
+    beside = b;
+    rest = ap (λ (S : Shares). work S (L .allowance) (recordsOf (L .bytes)) (roomOf (L .slots) (L .forecast)) (cardAt (L .slots) (L .cards)) nothing)
+        (ap₂ {C = Shares} shares (profile-named (L .shape .profile)) (s .height));
+    first = λ _. (refl, refl);
+    single = λ h. absurd (omega (arith, h, size-some (L .bytes)));
+  }
 
 one-le : (b : Bool) → one b ≤ 1
 one-le true = omega arith
@@ -146,18 +149,24 @@ one-le false = omega arith
 abbrev pub backAt : Now → Verdict → Worked
 backAt N v = record { forecast = N .forecast; tally = N .tally; stop = v; last = N .last; keys = N .keys }
 
+-- the run ends with what there is
+abbrev Finish : Lent → Now → Worked → Type 0
+Finish L N back =
+    Ends (number L) (L .slots) (cardAt (L .slots) (L .cards)) (L .forecast) (L .bytes) (L .allowance) back (given.lend (N .slots) (N .cards) (N .table))
+
 module _ {L : Lent} {N : Now} (g : Going L N) where
   -- where the work left is a stop, the run ends with what there is
   ended : (v : Verdict)
-      → work (of L) (L .allowance) (recordsOf (drop (N .tally .place) (L .bytes))) (room N) (N .tally) ≡ stopped (verdictNumber v) (room N) (N .tally)
-      → (verdictNumber v ≡ 0 → LastOf L (N .last)) → Ends (number L) (L .slots) (L .forecast) (L .bytes) (L .allowance) (backAt N v) (N .slots) (N .table)
+      → work (of L) (L .allowance) (recordsOf (drop (N .tally .place) (L .bytes))) (room N) (g .own) (N .tally) ≡ stopped (verdictNumber v) (room N) (g .own) (N .tally)
+      → (verdictNumber v ≡ 0 → LastOf L (N .last)) → Finish L N (backAt N v)
   ended v e last =
-      let w : all L ≡ stopped (verdictNumber v) (room N) (N .tally) = g .rest ∙ e in
+      let w : all L ≡ stopped (verdictNumber v) (room N) (g .own) (N .tally) = g .rest ∙ e in
       record {
         tally = sym (ap (λ (r : Ran). r .tally) w);
         stop = sym (ap (λ (r : Ran). r .stop) w);
         forecast = sym (g .shown) ∙ sym (ap (λ (r : Ran). forecastOf (r .room .cells)) w);
         slots-left = sym (slots-shown (number L) (N .slots) (N .forecast) (g .stands .passes)) ∙ sym (ap (λ (r : Ran). render 0 (r .room .segments)) w);
+        cards-left = g .beside ∙ sym (ap (λ (r : Ran). cardsBeside (r .cards) (N .slots)) w);
         table-left = right-stands (g .stands) (g .index)
             ∙ ap₂ tableOf (sym (ap (λ (S : Shares). S .height) (g .shares-lent))) (sym (ap (λ (r : Ran). r .room .segments) w));
         keys = sym (keys-stand (g .stands)) ∙ sym (ap (λ (r : Ran). length (keys (r .room .segments))) w);
@@ -165,22 +174,26 @@ module _ {L : Lent} {N : Now} (g : Going L N) where
       }
 
   -- at the end of the bytes
-  pub ends-whole : length (L .bytes) ≤ N .tally .place → Ends (number L) (L .slots) (L .forecast) (L .bytes) (L .allowance) (backAt N Accepted) (N .slots) (N .table)
+  pub ends-whole : length (L .bytes) ≤ N .tally .place → Finish L N (backAt N Accepted)
   ends-whole p =
       ended Accepted
-      (ap (λ (l : List Request). work (of L) (L .allowance) l (room N) (N .tally)) (ap recordsOf (drop-of-length-le (L .bytes) p) ∙ records-nil) ∙ work-end (of L) (L .allowance) (room N) (N .tally))
+      (ap (λ (l : List Record). work (of L) (L .allowance) l (room N) (g .own) (N .tally)) (ap recordsOf (drop-of-length-le (L .bytes) p) ∙ records-nil)
+      ∙ work-end (of L) (L .allowance) (room N) (g .own) (N .tally))
       (λ _ q e. last q e)
     where
-      last : (q : Request) → recordsOf (L .bytes) ≡ q ∷ [] → verdictNumber (N .last) ≡ outcome (sharesOf (number L) (L .slots)) q (roomOf (L .slots) (L .forecast)) .answer .number
+      last : LastOf L (N .last)
       last q e =
-          elim (decLe 11 (N .tally .place)) [
+          elim (decLe (head L) (N .tally .place)) [
             | yes h ↦ g .single h q e
-            | no h ↦ absurd (omega (arith, g .first (omega arith) .0, single-long (L .bytes) q e .0, p))
+            | no h ↦ absurd (omega (arith, g .first (omega arith) .0, single-record (L .bytes) q e .1, p))
           ]
 
 -- at a record, which comes to r
+abbrev pub next : Lent → Now → Record
+next L N = recordOf (drop (N .tally .place) (L .bytes))
+
 abbrev asks : Lent → Now → Request
-asks L N = requestOf (drop (N .tally .place) (L .bytes))
+asks L N = next L N .request
 
 pub record AtRecord (L : Lent) (N : Now) (r : Aim) : Type 0 where
   pub going : Going L N
@@ -200,18 +213,18 @@ module _ {L : Lent} {N : Now} {r : Aim} (a : AtRecord L N r) where
   pub turning : Turning (N .slots) (N .forecast) (N .bounds) (N .table) (L .shape) (asks L N) (N .keys) r
   turning = record { stands = g .stands; shown = g .shown; index = g .index; aimed = a .aimed }
 
-  here : work (of L) (L .allowance) (recordsOf (drop (N .tally .place) (L .bytes))) (room N) (N .tally)
-      ≡ work (of L) (L .allowance) (asks L N ∷ recordsOf (drop (N .tally .place + 11) (L .bytes))) (room N) (N .tally)
-  here = ap (λ (l : List Request). work (of L) (L .allowance) l (room N) t) (records-from (t .place) (L .bytes) (a .more))
+  here : work (of L) (L .allowance) (recordsOf (drop (N .tally .place) (L .bytes))) (room N) (g .own) (N .tally)
+      ≡ work (of L) (L .allowance) (next L N ∷ recordsOf (drop (N .tally .place + next L N .size) (L .bytes))) (room N) (g .own) (N .tally)
+  here = ap (λ (l : List Record). work (of L) (L .allowance) l (room N) (g .own) t) (records-from (t .place) (L .bytes) (a .more))
 
   -- the next turn is nearer to the end
-  pub nearer : {z : Tally} → z ≡ nextOf (N .tally) r → length (L .bytes) - z .place < length (L .bytes) - N .tally .place
-  nearer e = omega (arith, ap (λ (z : Tally). z .place) e, a .more)
+  pub nearer : {z : Tally} → z ≡ nextOf (N .tally) r (next L N .size) → length (L .bytes) - z .place < length (L .bytes) - N .tally .place
+  nearer e = omega (arith, ap (λ (z : Tally). z .place) e, a .more, size-some (drop (N .tally .place) (L .bytes)))
 
   -- before a record that is over the allowance
-  ends-over : L .allowance - t .moves < r .moves → Ends (number L) (L .slots) (L .forecast) (L .bytes) (L .allowance) (backAt N (Refused AllowancePassed)) (N .slots) (N .table)
+  ends-over : L .allowance - t .moves < r .moves → Finish L N (backAt N (Refused AllowancePassed))
   ends-over h =
-      ended g (Refused AllowancePassed) (here ∙ work-over (of L) (L .allowance) q _ (room N) t good (omega (arith, h, a .aimed .moves, g .moves)))
+      ended g (Refused AllowancePassed) (here ∙ work-over (of L) (L .allowance) (next L N) _ (room N) (g .own) t good (omega (arith, h, a .aimed .moves, g .moves)))
       (λ e. absurd (omega (arith, e)))
     where
       good : T (not (isBad q))
@@ -222,18 +235,18 @@ module _ {L : Lent} {N : Now} {r : Aim} (a : AtRecord L N r) where
           ]
 
   -- at a bad record
-  ends-stop : isStop (r .verdict) ≡ true → Ends (number L) (L .slots) (L .forecast) (L .bytes) (L .allowance) (backAt N (r .verdict)) (N .slots) (N .table)
+  ends-stop : isStop (r .verdict) ≡ true → Finish L N (backAt N (r .verdict))
   ends-stop e =
       elim (tested (isBad q)) [
         | inl b ↦
             let nine : verdictNumber (r .verdict) ≡ 9 = a .aimed .number ∙ ap (λ (z : Outcome). z .answer .number) (bad-is (of L) q (room N) b) in
-            ended g (r .verdict) (here ∙ work-bad (of L) (L .allowance) q _ (room N) t b ∙ ap (λ (m : ℕ). stopped m (room N) t) (sym nine)) (λ z. absurd (omega (arith, nine, z)))
+            ended g (r .verdict) (here ∙ work-bad (of L) (L .allowance) (next L N) _ (room N) (g .own) t b ∙ ap (λ (m : ℕ). stopped m (room N) (g .own) t) (sym nine)) (λ z. absurd (omega (arith, nine, z)))
         | inr k ↦ absurd (omega (arith, stop-high (r .verdict) e, a .aimed .number, low (of L) q (room N) k))
       ]
 
   -- either way, where it halts the run
   pub ends-halt : isStop (comesTo (L .allowance - N .tally .moves) r) ≡ true
-      → Ends (number L) (L .slots) (L .forecast) (L .bytes) (L .allowance) (backAt N (comesTo (L .allowance - N .tally .moves) r)) (N .slots) (N .table)
+      → Finish L N (backAt N (comesTo (L .allowance - N .tally .moves) r))
   ends-halt e =
       elim (decLt left (r .moves)) [
         | yes h ↦ subst Back (sym (comes-over left r h)) (ends-over h)
@@ -246,7 +259,7 @@ module _ {L : Lent} {N : Now} {r : Aim} (a : AtRecord L N r) where
       left = L .allowance - N .tally .moves
 
       Back : Verdict → Type 0
-      Back v = Ends (number L) (L .slots) (L .forecast) (L .bytes) (L .allowance) (backAt N v) (N .slots) (N .table)
+      Back v = Finish L N (backAt N v)
 
 -- else it goes on
 pub record OnRecord (L : Lent) (N : Now) (r : Aim) : Type 0 where
@@ -275,19 +288,22 @@ module _ {L : Lent} {N : Now} {r : Aim} (w : OnRecord L N r) where
         | inr k ↦ k
       ]
 
-  -- the record has its 11 bytes, and its moves are within the allowance
-  enough : N .tally .place + 11 ≤ length (L .bytes)
-  enough = omega (arith, long, length-drop (N .tally .place) (L .bytes))
-    where
-      long : 11 ≤ length (drop (N .tally .place) (L .bytes))
-      long = whole-record (drop (N .tally .place) (L .bytes)) ok
+  -- the record has its bytes, and its moves are within the allowance
+  enough : N .tally .place + next L N .size ≤ length (L .bytes)
+  enough =
+      omega (
+        arith,
+        size-fits (drop (N .tally .place) (L .bytes)) (not-bad (asks L N) ok),
+        length-drop (N .tally .place) (L .bytes),
+        a .more,
+      )
 
   small : N .tally .moves + r .moves ≤ L .allowance
   small = omega (arith, w .fit, a .going .moves)
 
   -- so its counts fit
   pub fits : length (L .bytes) < 2 ^ 64 → L .allowance < 2 ^ 64
-      → (N .tally .worked + 1 < 2 ^ 64) × (N .tally .refused + 1 < 2 ^ 64) × (N .tally .sweeps + 1 < 2 ^ 64) × (N .tally .place + 11 < 2 ^ 64) × (N .tally .moves + r .moves < 2 ^ 64)
+      → (N .tally .worked + 1 < 2 ^ 64) × (N .tally .refused + 1 < 2 ^ 64) × (N .tally .sweeps + 1 < 2 ^ 64) × (N .tally .place + next L N .size < 2 ^ 64) × (N .tally .moves + r .moves < 2 ^ 64)
   fits b m = (
     omega (arith, a .going .worked, a .more),
     omega (arith, a .going .refused, a .going .worked, a .more),
@@ -296,41 +312,69 @@ module _ {L : Lent} {N : Now} {r : Aim} (w : OnRecord L N r) where
     omega (arith, small),
   )
 
-  counted : nextOf (N .tally) r ≡ tallied (outcome (sharesAt (L .shape)) (asks L N) (roomOf (N .slots) (N .forecast))) (N .tally)
+  counted : nextOf (N .tally) r (next L N .size) ≡ tallied (outcome (sharesAt (L .shape)) (asks L N) (roomOf (N .slots) (N .forecast))) (next L N .size) (N .tally)
   counted = λ i. record {
     worked = N .tally .worked + 1;
     refused = N .tally .refused + one ((told (r .verdict) .1 ∙ ap (λ (k : ℕ). ltb 0 k) (a .aimed .number)) i);
     moves = N .tally .moves + a .aimed .moves i;
     sweeps = N .tally .sweeps + one (swept-turn (turning a) i);
-    place = N .tally .place + 11;
+    place = N .tally .place + next L N .size;
   }
+
+  -- the record at the start has as many bytes as the first
+  at-first : N .tally .place ≡ 0 → next L N .size ≡ head L
+  at-first e = ap (λ (m : ℕ). recordOf (drop m (L .bytes)) .size) e
 
   -- a single record is the one at the start
   last : LastOf L (r .verdict)
   last p e =
-      elim (decLe 11 (N .tally .place)) [
-        | yes h ↦ absurd (omega (arith, h, a .more, single-long (L .bytes) p e .1))
+      elim (decLe (head L) (N .tally .place)) [
+        | yes h ↦ absurd (omega (arith, h, a .more, single-record (L .bytes) p e .2, ap (λ (z : Record). z .size) (single-record (L .bytes) p e .0)))
         | no h ↦
             let f = a .going .first (omega arith) in
-            let same : asks L N ≡ p = ap (λ (l : List Request). getD l 0 Bad) (sym (records-from (N .tally .place) (L .bytes) (a .more)) ∙ ap (λ (m : ℕ). recordsOf (drop m (L .bytes))) (f .0) ∙ e) in
-            a .aimed .number ∙ ap₂ (λ (z : Request) (R : Room). outcome (of L) z R .answer .number) same (f .1)
-            ∙ ap (λ (S : Shares). outcome S p (roomOf (L .slots) (L .forecast)) .answer .number) (sym (a .going .shares-lent))
+            let same : next L N ≡ p = ap (λ (l : List Record). getD l 0 (asking Bad 0 11))
+            (sym (records-from (N .tally .place) (L .bytes) (a .more)) ∙ ap (λ (m : ℕ). recordsOf (drop m (L .bytes))) (f .0) ∙ e) in
+            a .aimed .number ∙ ap₂ (λ (z : Record) (R : Room). outcome (of L) (z .request) R .answer .number) same (f .1)
+            ∙ ap (λ (S : Shares). outcome S (p .request) (roomOf (L .slots) (L .forecast)) .answer .number) (sym (a .going .shares-lent))
       ]
 
-  pub goes-on : {slots′ bounds′ table′ : List ℕ} {F′ : Forecast} → Turned (outcome (sharesAt (L .shape)) (asks L N) (roomOf (N .slots) (N .forecast))) slots′ F′ bounds′ table′ (L .shape) (keysOf (N .keys) r)
-      → Going L (record { slots = slots′; forecast = F′; bounds = bounds′; table = table′; keys = keysOf (N .keys) r; last = r .verdict; tally = nextOf (N .tally) r })
-  goes-on d = record {
+  -- past the first record
+  past : head L ≤ N .tally .place + next L N .size
+  past =
+      elim (decLe (head L) (N .tally .place)) [
+        | yes h ↦ omega (arith, h)
+        | no h ↦ omega (arith, at-first (a .going .first (omega arith) .0))
+      ]
+
+  -- the card of each key then
+  abbrev pub ownNext : ℕ → ℕ
+  ownNext = cardsAfter (outcome (sharesAt (L .shape)) (asks L N) (roomOf (N .slots) (N .forecast))) (asks L N) (next L N .card) (a .going .own)
+
+  pub goes-on : {slots′ cards′ bounds′ table′ : List ℕ} {F′ : Forecast} → Turned (outcome (sharesAt (L .shape)) (asks L N) (roomOf (N .slots) (N .forecast))) slots′ F′ bounds′ table′ (L .shape) (keysOf (N .keys) r)
+      → cards′ ≡ cardsBeside ownNext slots′
+      → Going L (record {
+        slots = slots′;
+        cards = cards′;
+        forecast = F′;
+        bounds = bounds′;
+        table = table′;
+        keys = keysOf (N .keys) r;
+        last = r .verdict;
+        tally = nextOf (N .tally) r (next L N .size);
+      })
+  goes-on d b = record {
     stands = d .stands;
     shown = d .shown;
     index = d .index;
     shares-lent = a .going .shares-lent;
-    in-bytes = enough;
-    worked = omega (arith, a .going .worked);
+    worked = omega (arith, a .going .worked, size-some (drop (N .tally .place) (L .bytes)));
     refused = omega (arith, a .going .refused, one-le (not (isAccepted (r .verdict))));
     sweeps = omega (arith, a .going .sweeps, one-le (isAccepted (r .verdict) && ltb 0 (r .level)));
     moves = small;
-    rest = a .going .rest ∙ here a ∙ work-on (of L) (L .allowance) (asks L N) _ (room N) (N .tally) ok (omega (arith, small, a .aimed .moves))
-        ∙ ap₂ (λ (R : Room) (z : Tally). work (of L) (L .allowance) (recordsOf (drop (N .tally .place + 11) (L .bytes))) R z) (sym (d .room)) (sym counted);
-    first = λ h. absurd (omega (arith, h));
+    own = ownNext;
+    beside = b;
+    rest = a .going .rest ∙ here a ∙ work-on (of L) (L .allowance) (next L N) _ (room N) (a .going .own) (N .tally) ok (omega (arith, small, a .aimed .moves))
+        ∙ ap₂ (λ (R : Room) (z : Tally). work (of L) (L .allowance) (recordsOf (drop (N .tally .place + next L N .size) (L .bytes))) R ownNext z) (sym (d .room)) (sym counted);
+    first = λ h. absurd (omega (arith, h, past));
     single = λ _. last;
   }

@@ -1,4 +1,4 @@
-// Requests worked on a list that has been checked: what each comes to is decided first, then one function acts.
+// Requests worked on a list that has been checked: what each comes to is decided first, then its key is shifted in or out or its window swept.
 pub mod working;
 
 use forecast::Forecast;

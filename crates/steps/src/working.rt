@@ -3,6 +3,8 @@ ghost use mathlib.Core.Path.{_≡_};
 ghost use lib.ListN.{length};
 ghost use Rattle.slots.specs.Segments.{segmentsOf};
 ghost use Rattle.rules.specs.Profiles.{numberOf};
+ghost use Rattle.rules.specs.Cards.{cardAt, cardsBeside};
+ghost use Rattle.rules.specs.Lent.{lend};
 ghost use Rattle.seats.specs.Bounds.{Indexed};
 ghost use Rattle.aims.specs.Aims.{Stands};
 ghost use Rattle.steps.specs.Works.{Ends};
@@ -14,6 +16,7 @@ use shares::Shape;
 // The records in order: each is decided, then acted on. `plan` is a buffer for the plans of sweeps.
 pub fn work(
     list: &mut [u64],
+    cards: &mut [u32],
     table: &mut [usize],
     bounds: &mut [u64],
     plan: &mut [usize],
@@ -24,12 +27,16 @@ pub fn work(
     allowance: u64,
 ) -> Worked
     requires { ⌜ Stands (now list) forecast shape keys × Indexed (segmentsOf (now list)) (now list) (now bounds) (now table) × (length (now plan) ≡ 64) ⌝ }
-    ensures { λ r. ⌜ Ends (numberOf (shape .profile)) (now (list .entry)) forecast (now (requests .entry)) allowance r (now (list .exit)) (now (table .exit)) ⌝ }
+    requires { ⌜ now cards ≡ cardsBeside (cardAt (now list) (now cards)) (now list) ⌝ }
+    ensures { λ r. ⌜ Ends (numberOf (shape .profile)) (now (list .entry)) (cardAt (now (list .entry)) (now (cards .entry))) forecast (now (requests .entry)) allowance r (lend (now (list .exit)) (now (cards .exit)) (now (table .exit))) ⌝ }
 {
     let mut last = Verdict::Accepted;
     let mut tally = tallies::none();
     while tally.place < requests.len() {
-        let aim = tallies::aim_at(list, table, bounds, shape, keys, requests, tally.place);
+        let record = records::record_at(requests, tally.place);
+        let request = record.request;
+        let card = record.card;
+        let aim = aims::aiming::aim(list, table, bounds, shape, request, keys);
         let left = allowance - tally.moves;
         if tallies::halts(aim, left) {
             let stop = tallies::within(aim, left);
@@ -46,13 +53,15 @@ pub fn work(
         let done = tallies::is_accepted(verdict);
         if done {
             forecast = acts::note(forecast, shape, aim);
-            acts::act(list, table, bounds, plan, forecast, shape, aim);
-            if aim.level != 0 {
+            if aim.level == 0 {
+                acts::shift(list, cards, table, bounds, aim, card);
+            } else {
+                acts::sweep(list, cards, table, bounds, plan, forecast, shape, aim, card);
                 forecast = acts::retarget(forecast, bounds, aim);
             }
         }
         keys = tallies::grown(keys, aim, done);
-        tally = tallies::next(tally, aim, done);
+        tally = tallies::next(tally, aim, record.size, done);
     }
     Worked {
         forecast,

@@ -1,5 +1,5 @@
-// Works the request streams of data/ through the run, in either profile and in none, each on a list of 256 slots made empty, and writes for each its name, the reply, the
-// four totals, their difference to the reading before the run, the number that the check gives of what it left, and the table then.
+// Works the request streams of data/ through the run, in either profile and in none, on lists of 256 slots made empty, and writes for each its
+// name, the reply, the four totals, what was added to them, the number that a check gives of what it left, the table and the cards then.
 use forecast::Forecast;
 use libc::STDOUT_FILENO;
 use rules::Tally;
@@ -30,6 +30,17 @@ fn entries(table: &[usize]) {
     }
 }
 
+// What the cards hold, as one number.
+fn sum_of(cards: &[u32]) -> u64 {
+    let mut sum: u64 = 0;
+    let mut i = 0;
+    while i < cards.len() {
+        sum = (sum * 31 + (cards[i] % 1000003) as u64) % 1000003;
+        i += 1;
+    }
+    sum
+}
+
 fn tell(tally: Tally, stop: u64, totals: Totals, added: Totals, check: u64) {
     told(b" worked ", tally.worked as u64);
     told(b" refused ", tally.refused as u64);
@@ -46,6 +57,7 @@ fn stream(
     profile: u64,
     name: &[u8],
     list: &mut [u64],
+    cards: &mut [u32],
     table: &mut [usize],
     forecast: Forecast,
     allowance: u64,
@@ -62,6 +74,7 @@ fn stream(
     let done = run::running::run_with(
         profile,
         list,
+        cards,
         table,
         forecast,
         &input[..n],
@@ -70,7 +83,7 @@ fn stream(
     );
     let reply = done.reply;
     let left = reply.forecast;
-    let answer = list::calls::check(profile, list, table, left);
+    let answer = list::calls::check(profile, list, cards, table, left);
     let check = telling::check_number(answer);
     text(name);
     let after = done.totals;
@@ -83,6 +96,7 @@ fn stream(
         check,
     );
     entries(table);
+    told(b" cards ", sum_of(cards));
     text(b"\n");
     left
 }
@@ -90,19 +104,22 @@ fn stream(
 // Works one stream on a list made empty.
 fn fresh(profile: u64, name: &[u8], allowance: u64) {
     let mut slots = [0u64; 256];
+    let mut cards = [0u32; 256];
     let mut table = [0usize; 7];
-    let made = list::calls::make(profile, &mut slots, &mut table);
+    let made = list::calls::make(profile, &mut slots, &mut cards, &mut table);
     stream(
         profile,
         name,
         &mut slots,
+        &mut cards,
         &mut table,
         made.forecast,
         allowance,
     );
 }
 
-fn main() {
+// Each stream on a list of its own.
+fn apart() {
     fresh(1, b"empty", 1000);
     fresh(1, b"short", 1000);
     fresh(1, b"mark", 1000);
@@ -111,15 +128,37 @@ fn main() {
     fresh(1, b"moving", 55);
     fresh(1, b"moving", 54);
     fresh(2, b"moving", 1000);
+    fresh(1, b"cards", 1000);
+    fresh(1, b"cut", 1000);
+    fresh(1, b"swept", 1000);
+}
+
+// Several on one list, one after the other; then with a table too short, too few cards, too few slots, and a card in a gap.
+fn main() {
+    apart();
     let mut slots = [0u64; 256];
+    let mut cards = [0u32; 256];
     let mut table = [0usize; 7];
-    let made = list::calls::make(1, &mut slots, &mut table);
-    let left = stream(1, b"moving", &mut slots, &mut table, made.forecast, 1000);
-    let again = stream(1, b"again", &mut slots, &mut table, left, 1000);
-    stream(1, b"empty", &mut slots, &mut table, again, 0);
-    stream(3, b"empty", &mut slots, &mut table, again, 0);
+    let made = list::calls::make(1, &mut slots, &mut cards, &mut table);
+    let moved = stream(
+        1,
+        b"moving",
+        &mut slots,
+        &mut cards,
+        &mut table,
+        made.forecast,
+        1000,
+    );
+    let again = stream(1, b"again", &mut slots, &mut cards, &mut table, moved, 1000);
+    let left = stream(1, b"cards", &mut slots, &mut cards, &mut table, again, 1000);
+    stream(1, b"empty", &mut slots, &mut cards, &mut table, left, 0);
+    stream(3, b"empty", &mut slots, &mut cards, &mut table, left, 0);
     let mut short = [0usize; 6];
-    stream(1, b"moving", &mut slots, &mut short, again, 1000);
+    stream(1, b"moving", &mut slots, &mut cards, &mut short, left, 1000);
+    let mut few = [0u32; 255];
+    stream(1, b"moving", &mut slots, &mut few, &mut table, left, 1000);
     let mut wrong = [0u64; 255];
-    stream(1, b"moving", &mut wrong, &mut table, again, 1000);
+    stream(1, b"moving", &mut wrong, &mut cards, &mut table, left, 1000);
+    cards[255] = 7;
+    stream(1, b"moving", &mut slots, &mut cards, &mut table, left, 1000);
 }

@@ -1,5 +1,6 @@
 // A sweep: its plan, made before anything is written, and the sweep by it.
 ghost use mathlib.Core.Path.{_≡_};
+ghost use mathlib.Core.Bool.{true};
 ghost use mathlib.Core.List.{List, map};
 ghost use Prim.Native.Nat.{ℕ, _+_, _^_, _≤_};
 ghost use lib.Dec.{eqb};
@@ -93,11 +94,21 @@ fn recount(table: &mut [usize], first: usize, plan: &[usize])
     tables::summing::sum_over(table, n, first, first + plan.len() - 1);
 }
 
-// The window swept by its plan, with the bounds of its segments and the table.
-pub fn sweep(list: &mut [u64], table: &mut [usize], bounds: &mut [u64], plan: &[usize], aim: Aim)
+// The window swept by its plan, each key with its card, with the bounds of its segments and the table. `card` is that of a key put in.
+pub fn sweep(
+    list: &mut [u64],
+    cards: &mut [u32],
+    table: &mut [usize],
+    bounds: &mut [u64],
+    plan: &[usize],
+    aim: Aim,
+    card: u32,
+)
     requires { ⌜ ((F : Forecast) × (shape : Shape) × Acting (now list) F (now bounds) (now table) shape aim × Planned (now list) F shape aim (now plan)) ⌝ }
     requires { ⌜ (1 ≤ aim .level) × (length (now plan) ≡ 64) ⌝ }
-    ensures { λ _. ⌜ ((F : Forecast) (shape : Shape) → Acting (now (list .entry)) F (now (bounds .entry)) (now (table .entry)) shape aim → Planned (now (list .entry)) F shape aim (now (plan .entry)) → Left (outcomeOf (now (list .entry)) F shape aim) (now (list .exit)) (now (bounds .exit)) (now (table .exit))) ⌝ }
+    requires { ⌜ length (now cards) ≡ length (now list) ⌝ }
+    ensures left { λ _. ⌜ ((F : Forecast) (shape : Shape) → Acting (now (list .entry)) F (now (bounds .entry)) (now (table .entry)) shape aim → Planned (now (list .entry)) F shape aim (now (plan .entry)) → Left (outcomeOf (now (list .entry)) F shape aim) (now (list .exit)) (now (bounds .exit)) (now (table .exit))) ⌝ }
+    ensures cards { λ _. ⌜ ((f : ℕ → ℕ) → f 0 ≡ 0 → (aim .grows ≡ true → f (aim .key) ≡ card) → now (cards .entry) ≡ map f (now (list .entry)) → now (cards .exit) ≡ map f (now (list .exit))) ⌝ }
 {
     let segment = aim.segment;
     let n = shares::power(aim.level);
@@ -107,10 +118,12 @@ pub fn sweep(list: &mut [u64], table: &mut [usize], bounds: &mut [u64], plan: &[
     let p = places::counting::keys_in(table, first, segment) + aim.at;
     sowing::sow(
         &mut list[a..e],
+        &mut cards[a..e],
         &table[first..first + n],
         &plan[..n],
         p,
         aim.key,
+        card,
         aim.grows,
     );
     recount(table, first, &plan[..n]);

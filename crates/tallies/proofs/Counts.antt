@@ -27,29 +27,29 @@ none-more n b e = rw e (omega arith)
 one-more : (n : ℕ) (b : Bool) → b ≡ true → n + one b ≡ n + 1
 one-more n b e = rw e refl
 
-module _ (t : Tally) (r : Aim) where
+module _ (t : Tally) (r : Aim) (size : ℕ) where
   pub next-swept : isAccepted (r .verdict) ≡ true → r .level ≢ 0
-      → nextOf t r ≡ record { worked = t .worked + 1; refused = t .refused; moves = t .moves + r .moves; sweeps = t .sweeps + 1; place = t .place + 11 }
+      → nextOf t r size ≡ record { worked = t .worked + 1; refused = t .refused; moves = t .moves + r .moves; sweeps = t .sweeps + 1; place = t .place + size }
   next-swept e l = λ i. record {
     worked = t .worked + 1;
     refused = none-more (t .refused) (not (isAccepted (r .verdict))) (ap not e) i;
     moves = t .moves + r .moves;
     sweeps = one-more (t .sweeps) (isAccepted (r .verdict) && ltb 0 (r .level)) (ap₂ _&&_ e (lt-ltb 0 (r .level) (pos-of-ne-zero l))) i;
-    place = t .place + 11;
+    place = t .place + size;
   }
 
   pub next-shifted : isAccepted (r .verdict) ≡ true → r .level ≡ 0
-      → nextOf t r ≡ record { worked = t .worked + 1; refused = t .refused; moves = t .moves + r .moves; sweeps = t .sweeps; place = t .place + 11 }
+      → nextOf t r size ≡ record { worked = t .worked + 1; refused = t .refused; moves = t .moves + r .moves; sweeps = t .sweeps; place = t .place + size }
   next-shifted e l = λ i. record {
     worked = t .worked + 1;
     refused = none-more (t .refused) (not (isAccepted (r .verdict))) (ap not e) i;
     moves = t .moves + r .moves;
     sweeps = none-more (t .sweeps) (isAccepted (r .verdict) && ltb 0 (r .level)) (ap₂ (λ (b : Bool) (m : ℕ). b && ltb 0 m) e l) i;
-    place = t .place + 11;
+    place = t .place + size;
   }
 
   pub next-refused : isAccepted (r .verdict) ≡ false → r .moves ≡ 0
-      → nextOf t r ≡ record { worked = t .worked + 1; refused = t .refused + 1; moves = t .moves; sweeps = t .sweeps; place = t .place + 11 }
+      → nextOf t r size ≡ record { worked = t .worked + 1; refused = t .refused + 1; moves = t .moves; sweeps = t .sweeps; place = t .place + size }
   next-refused e m =
       let moves : t .moves + r .moves ≡ t .moves = omega (arith, m) in
       λ i. record {
@@ -57,5 +57,5 @@ module _ (t : Tally) (r : Aim) where
         refused = one-more (t .refused) (not (isAccepted (r .verdict))) (ap not e) i;
         moves = moves i;
         sweeps = none-more (t .sweeps) (isAccepted (r .verdict) && ltb 0 (r .level)) (ap (λ (b : Bool). b && ltb 0 (r .level)) e) i;
-        place = t .place + 11;
+        place = t .place + size;
       }

@@ -6,7 +6,7 @@ use mathlib.Core.Logic.{_≢_}
 use lib.Dec.{T, ltb, ltb→lt}
 use borrow.Author.Tests.{lt-ltb, le-ltb}
 use Rattle.lists.proofs.Tests.{and-left}
-use Rattle.rules.specs.declared.Refusal.the-variants.{UnknownProfile, WrongLength, WrongOrder, TooManyKeys, WrongForecast, WrongTable, KeyZero, KeyPresent, KeyAbsent, Full, BadRecord, AllowancePassed}
+use Rattle.rules.specs.declared.Refusal.the-variants.{UnknownProfile, WrongLength, WrongCards, WrongOrder, CardInGap, TooManyKeys, WrongForecast, WrongTable, KeyZero, KeyPresent, KeyAbsent, Full, BadRecord, AllowancePassed}
 use Rattle.rules.specs.declared.Verdict.{Verdict}
 use Rattle.rules.specs.declared.Verdict.the-variants.{Refused, Accepted}
 use Rattle.rules.specs.Refusals.{verdictNumber}
@@ -19,7 +19,9 @@ stopping n = ltb 8 n && ltb n 11
 pub told : (v : Verdict) → (isStop v ≡ stopping (verdictNumber v)) × (not (isAccepted v) ≡ ltb 0 (verdictNumber v))
 told (Refused UnknownProfile) = (refl, refl)
 told (Refused WrongLength) = (refl, refl)
+told (Refused WrongCards) = (refl, refl)
 told (Refused WrongOrder) = (refl, refl)
+told (Refused CardInGap) = (refl, refl)
 told (Refused TooManyKeys) = (refl, refl)
 told (Refused WrongForecast) = (refl, refl)
 told (Refused WrongTable) = (refl, refl)

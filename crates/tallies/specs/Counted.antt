@@ -13,7 +13,9 @@ use Rattle.aims.specs.declared.Aim.{Aim}
 abbrev pub stopsRun : Refusal → Bool
 stopsRun Refusal.UnknownProfile = false
 stopsRun Refusal.WrongLength = false
+stopsRun Refusal.WrongCards = false
 stopsRun Refusal.WrongOrder = false
+stopsRun Refusal.CardInGap = false
 stopsRun Refusal.TooManyKeys = false
 stopsRun Refusal.WrongForecast = false
 stopsRun Refusal.WrongTable = false
@@ -36,14 +38,14 @@ isAccepted Verdict.Accepted = true
 abbrev pub comesTo : ℕ → Aim → Verdict
 comesTo left r = if ltb left (r .moves) then Verdict.Refused Refusal.AllowancePassed else r .verdict
 
--- One record more, by what it came to.
-abbrev pub nextOf : Tally → Aim → Tally
-nextOf t r = record {
+-- One record more, of so many bytes, by what it came to.
+abbrev pub nextOf : Tally → Aim → ℕ → Tally
+nextOf t r size = record {
   worked = t .worked + 1;
   refused = t .refused + one (not (isAccepted (r .verdict)));
   moves = t .moves + r .moves;
   sweeps = t .sweeps + one (isAccepted (r .verdict) && ltb 0 (r .level));
-  place = t .place + 11;
+  place = t .place + size;
 }
 
 -- The keys then.

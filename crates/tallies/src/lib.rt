@@ -1,36 +1,13 @@
-// The records of a run, one by one: what each comes to, whether it stops the run, and what is counted of it.
+// The records of a run, one by one: whether what each comes to stops the run, and what is counted of it.
 ghost use mathlib.Core.Path.{_≡_};
 ghost use mathlib.Core.Bool.{true, false};
 ghost use Prim.Native.Nat.{_+_, _≤_, _<_, _^_};
-ghost use lib.ListN.{length, drop};
-ghost use Rattle.forecast.specs.declared.Forecast.{Forecast};
-ghost use Rattle.shares.specs.Rows.{sharesAt};
-ghost use Rattle.rules.specs.Calls.{roomOf};
-ghost use Rattle.rules.specs.Runs.{requestOf, nothing};
-ghost use Rattle.aims.specs.Aims.{Stands, Known, Aimed};
+ghost use Rattle.rules.specs.Runs.{nothing};
 ghost use Rattle.tallies.specs.Counted.{stopsRun, isStop, isAccepted, comesTo, nextOf, keysOf};
 use aims::Aim;
 use rules::Refusal;
 use rules::Tally;
 use rules::Verdict;
-use shares::Shape;
-
-// What the record at a place comes to.
-pub fn aim_at(
-    list: &[u64],
-    table: &[usize],
-    bounds: &[u64],
-    shape: Shape,
-    keys: usize,
-    bytes: &[u8],
-    place: usize,
-) -> Aim
-    requires { ⌜ Known (now list) (now bounds) (now table) shape keys × (place ≤ length (now bytes)) ⌝ }
-    ensures { λ r. ⌜ ((F : Forecast) → Stands (now (list .entry)) F shape keys → Aimed (sharesAt shape) (requestOf (drop place (now (bytes .entry)))) (roomOf (now (list .entry)) F) r) ⌝ }
-{
-    let request = records::request_of(&bytes[place..]);
-    aims::aiming::aim(list, table, bounds, shape, request, keys)
-}
 
 fn refusal_stops(refusal: Refusal) -> bool
     ensures { λ r. ⌜ r ≡ stopsRun refusal ⌝ }
@@ -38,7 +15,9 @@ fn refusal_stops(refusal: Refusal) -> bool
     match refusal {
         Refusal::UnknownProfile => false,
         Refusal::WrongLength => false,
+        Refusal::WrongCards => false,
         Refusal::WrongOrder => false,
+        Refusal::CardInGap => false,
         Refusal::TooManyKeys => false,
         Refusal::WrongForecast => false,
         Refusal::WrongTable => false,
@@ -104,15 +83,15 @@ pub fn none() -> Tally
     }
 }
 
-// The counts after one more record, which was done or refused. (Refused, it moves nothing and sweeps nothing.)
-pub fn next(t: Tally, aim: Aim, done: bool) -> Tally
-    requires { ⌜ (done ≡ isAccepted (aim .verdict)) × (t .worked + 1 < 2 ^ 64) × (t .refused + 1 < 2 ^ 64) × (t .sweeps + 1 < 2 ^ 64) × (t .place + 11 < 2 ^ 64) × (t .moves + aim .moves < 2 ^ 64) ⌝ }
+// The counts after one more record, of `size` bytes, which was done or refused. (Refused, it moves nothing and sweeps nothing.)
+pub fn next(t: Tally, aim: Aim, size: usize, done: bool) -> Tally
+    requires { ⌜ (done ≡ isAccepted (aim .verdict)) × (t .worked + 1 < 2 ^ 64) × (t .refused + 1 < 2 ^ 64) × (t .sweeps + 1 < 2 ^ 64) × (t .place + size < 2 ^ 64) × (t .moves + aim .moves < 2 ^ 64) ⌝ }
     requires { ⌜ (isAccepted (aim .verdict) ≡ false → aim .moves ≡ 0) ⌝ }
-    ensures { λ r. ⌜ r ≡ nextOf t aim ⌝ }
+    ensures { λ r. ⌜ r ≡ nextOf t aim size ⌝ }
 {
     let mut n = t;
     n.worked = t.worked + 1;
-    n.place = t.place + 11;
+    n.place = t.place + size;
     if done {
         n.moves = t.moves + aim.moves as u64;
         if aim.level != 0 {

@@ -31,25 +31,27 @@ pub fn check_number(answer: CheckAnswer) -> u64
 
 // A number alone.
 fn number_alone(number: u64) -> Told
-    ensures { λ r. ⌜ r ≡ record { number = number; first = 0; second = 0 } ⌝ }
+    ensures { λ r. ⌜ r ≡ record { number = number; first = 0; second = 0; third = 0 } ⌝ }
 {
     Told {
         number,
         first: 0,
         second: 0,
+        third: 0,
     }
 }
 
-// Whether the key is live, and its segment.
+// Whether the key is live, its segment and its card.
 pub fn lookup_told(answer: LookupAnswer) -> Told
     ensures { λ r. ⌜ r ≡ foundWords (lookupPaper answer) ⌝ }
 {
     match answer {
         LookupAnswer::Refused(refusal) => number_alone(refusal_number(refusal)),
-        LookupAnswer::Present(segment) => Told {
+        LookupAnswer::Present(segment, card) => Told {
             number: 0,
             first: 1,
             second: segment as u64,
+            third: card as u64,
         },
         LookupAnswer::Absent => number_alone(0),
     }
@@ -65,11 +67,13 @@ pub fn scan_told(answer: ScanAnswer) -> Told
             number: 0,
             first: n as u64,
             second: 0,
+            third: 0,
         },
         ScanAnswer::More(n) => Told {
             number: 0,
             first: n as u64,
             second: 1,
+            third: 0,
         },
     }
 }
@@ -84,6 +88,7 @@ pub fn insert_told(answer: InsertAnswer) -> Told
             number: 0,
             first: moves,
             second: 0,
+            third: 0,
         },
     }
 }
@@ -98,11 +103,13 @@ pub fn delete_told(answer: DeleteAnswer) -> Told
             number: 0,
             first: moves,
             second: 0,
+            third: 0,
         },
         DeleteAnswer::DeletedSparse(moves) => Told {
             number: 0,
             first: moves,
             second: 1,
+            third: 0,
         },
     }
 }

@@ -22,15 +22,25 @@ pub struct ToldRun {
 pub fn run_told(
     profile: u64,
     list: &mut [u64],
+    cards: &mut [u32],
     table: &mut [usize],
     forecast: Forecast,
     requests: &[u8],
     allowance: u64,
     totals: Totals,
 ) -> ToldRun
-    ensures { λ r. ⌜ RunTells profile (lend (now (list .entry)) (now (table .entry))) forecast (now (requests .entry)) allowance totals r (lend (now (list .exit)) (now (table .exit))) ⌝ }
+    ensures { λ r. ⌜ RunTells profile (lend (now (list .entry)) (now (cards .entry)) (now (table .entry))) forecast (now (requests .entry)) allowance totals r (lend (now (list .exit)) (now (cards .exit)) (now (table .exit))) ⌝ }
 {
-    let done = run::running::run_with(profile, list, table, forecast, requests, allowance, totals);
+    let done = run::running::run_with(
+        profile,
+        list,
+        cards,
+        table,
+        forecast,
+        requests,
+        allowance,
+        totals,
+    );
     let reply = done.reply;
     let left = reply.forecast;
     let tally = reply.tally;
@@ -51,15 +61,25 @@ pub fn run_told(
 pub extern "C" fn ff_run_over(
     profile: u64,
     list: &mut [u64],
+    cards: &mut [u32],
     table: &mut [usize],
     forecast: Forecast,
     requests: &[u8],
     allowance: u64,
     totals: &mut Totals,
 ) -> Told
-    ensures { λ r. ⌜ RunTells profile (lend (now (list .entry)) (now (table .entry))) forecast (now (requests .entry)) allowance (now (totals .entry)) (record { told = r; totals = now (totals .exit) }) (lend (now (list .exit)) (now (table .exit))) ⌝ }
+    ensures { λ r. ⌜ RunTells profile (lend (now (list .entry)) (now (cards .entry)) (now (table .entry))) forecast (now (requests .entry)) allowance (now (totals .entry)) (record { told = r; totals = now (totals .exit) }) (lend (now (list .exit)) (now (cards .exit)) (now (table .exit))) ⌝ }
 {
-    let done = run_told(profile, list, table, forecast, requests, allowance, *totals);
+    let done = run_told(
+        profile,
+        list,
+        cards,
+        table,
+        forecast,
+        requests,
+        allowance,
+        *totals,
+    );
     *totals = done.totals;
     done.told
 }

@@ -1,4 +1,4 @@
-// What the program writes: a line for an answer, and what slots, cells and table hold.
+// What the program writes: a line for an answer, and what slots, cards, cells and table hold.
 ghost use Prim.Native.Nat.{_<_};
 use forecast::Forecast;
 use given::Told;
@@ -13,17 +13,22 @@ pub fn number(n: u64) {
     io::print_decimal(STDOUT_FILENO, n);
 }
 
-// A line of the word for a call and three numbers.
-pub fn line(word: &[u8], a: u64, b: u64, c: u64) {
+// A line of a word and two numbers.
+pub fn line(word: &[u8], a: u64, b: u64) {
     text(word);
     number(a);
     number(b);
-    number(c);
     text(b"\n");
 }
 
-pub fn told(name: &[u8], answer: Told) {
-    line(name, answer.number, answer.first, answer.second);
+// An answer's number and the three values that come with it.
+pub fn told(word: &[u8], answer: Told) {
+    text(word);
+    number(answer.number);
+    number(answer.first);
+    number(answer.second);
+    number(answer.third);
+    text(b"\n");
 }
 
 // What the slots hold, as one number.
@@ -32,6 +37,17 @@ pub fn sum_of(slots: &[u64]) -> u64 {
     let mut i = 0;
     while i < slots.len() {
         sum = (sum * 31 + slots[i] % 1000003) % 1000003;
+        i += 1;
+    }
+    sum
+}
+
+// What the cards hold, as one number.
+pub fn cards_sum(cards: &[u32]) -> u64 {
+    let mut sum: u64 = 0;
+    let mut i = 0;
+    while i < cards.len() {
+        sum = (sum * 31 + (cards[i] % 1000003) as u64) % 1000003;
         i += 1;
     }
     sum

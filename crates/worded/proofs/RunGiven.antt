@@ -33,6 +33,7 @@ use Rattle.replies.proofs.Back.{plain, works-not, handed, kept}
 pub record OnWords : Type 0 where
   pub profile : ℕ
   pub list : List ℕ
+  pub cards : List ℕ
   pub table : List ℕ
   pub forecast : List ℕ
   pub requests : List ℕ
@@ -48,7 +49,7 @@ module _ (x : OnWords) where
   profile = x .profile
 
   abbrev L : Lent
-  L = lend (x .list) (x .table)
+  L = lend (x .list) (x .cards) (x .table)
 
   abbrev forecast : List ℕ
   forecast = x .forecast
@@ -95,12 +96,12 @@ module _ (x : OnWords) where
             kept n G forecast (ap worksOn (e ∙ q .1) ∙ early z) ∙ sym (ap forecastWords (q .0) ∙ words-again forecast (x .forecast-fits)))
       ]
 
-  pub run-given : (F : Forecast) (T : Totals) (k : ToldRun) (list' table' forecast' totals' reply' : List ℕ) → F ≡ saturated (forecastIn (x .forecast)) → T ≡ totalsIn (x .totals)
-      → RunTells (x .profile) (lend (x .list) (x .table)) F (x .requests) (x .allowance) T k (lend list' table')
+  pub run-given : (F : Forecast) (T : Totals) (k : ToldRun) (list' cards' table' forecast' totals' reply' : List ℕ) → F ≡ saturated (forecastIn (x .forecast)) → T ≡ totalsIn (x .totals)
+      → RunTells (x .profile) (lend (x .list) (x .cards) (x .table)) F (x .requests) (x .allowance) T k (lend list' cards' table')
       → RunPosted (k .told .stop) (k .told .forecast) (k .told .tally) (k .totals) (x .forecast) (x .reply) forecast' totals' reply'
-      → Gives (run (x .profile) (x .list) (x .table) (x .forecast) (x .requests) (x .allowance) (x .totals) (x .reply)) (k .told .stop) (list' ∷ table' ∷ forecast' ∷ totals' ∷ reply' ∷ [])
+      → Gives (run (x .profile) (x .list) (x .cards) (x .table) (x .forecast) (x .requests) (x .allowance) (x .totals) (x .reply)) (k .told .stop) (list' ∷ cards' ∷ table' ∷ forecast' ∷ totals' ∷ reply' ∷ [])
   unfolding run
-  run-given F T k list' table' forecast' totals' reply' f g a p =
+  run-given F T k list' cards' table' forecast' totals' reply' f g a p =
       let is : rules.run profile L F requests allowance T ≡ rules.run profile L (saturated (forecastIn forecast)) requests allowance (totalsIn totals) = λ i. rules.run profile L (f i) requests allowance (g i) in
       let same = run-same profile L (forecastIn forecast) requests allowance (totalsIn totals) (forecastIn-roomy forecast) in
       let lent = a .lent-left ∙ ap (λ (w : rules.Worked). w .lent) is ∙ same .lent in
@@ -112,4 +113,4 @@ module _ (x : OnWords) where
       fitted (notForecast (x .forecast) || (notTotals (x .totals) || short (x .reply) 4)) _ _
       (nor (notForecast (x .forecast)) (notTotals (x .totals) || short (x .reply) 4) (forecast-sized (x .forecast) (x .forecast-fits))
       (nor (notTotals (x .totals)) (short (x .reply) 4) (totals-sized (x .totals) (x .totals-fit)) (reply-sized (x .reply) 4 (x .reply-fits))))
-      (record { number = stop; slices = λ i. lent i .slots ∷ lent i .table ∷ words i ∷ sums i ∷ said i ∷ [] })
+      (record { number = stop; slices = λ i. lent i .slots ∷ lent i .cards ∷ lent i .table ∷ words i ∷ sums i ∷ said i ∷ [] })

@@ -6,20 +6,22 @@ ghost use lib.ListN.{length};
 ghost use Rattle.given.specs.Calls.{Gives};
 ghost use Rattle.given.specs.Calls as calls;
 
-// Puts a new key in.
+// Puts a new key in, with its card.
 pub fn insert(
     profile: u64,
     list: &mut [u64],
+    cards: &mut [u32],
     table: &mut [usize],
     forecast: &mut [u64],
     key: u64,
+    card: u32,
     reply: &mut [u64],
 ) -> u64
     requires { ⌜ (length (now forecast) ≡ 37) × (1 ≤ length (now reply)) ⌝ }
-    ensures { λ r. ⌜ Gives (calls.insert profile (now (list .entry)) (now (table .entry)) (now (forecast .entry)) key (now (reply .entry))) r (now (list .exit) ∷ now (table .exit) ∷ now (forecast .exit) ∷ now (reply .exit) ∷ []) ⌝ }
+    ensures { λ r. ⌜ Gives (calls.insert profile (now (list .entry)) (now (cards .entry)) (now (table .entry)) (now (forecast .entry)) key card (now (reply .entry))) r (now (list .exit) ∷ now (cards .exit) ∷ now (table .exit) ∷ now (forecast .exit) ∷ now (reply .exit) ∷ []) ⌝ }
 {
     let given = words::read_forecast(forecast);
-    let done = list::changing::insert(profile, list, table, given, key);
+    let done = list::changing::insert(profile, list, cards, table, given, key, card);
     posts::post_insert(done, forecast, reply)
 }
 
@@ -27,16 +29,17 @@ pub fn insert(
 pub fn delete(
     profile: u64,
     list: &mut [u64],
+    cards: &mut [u32],
     table: &mut [usize],
     forecast: &mut [u64],
     key: u64,
     reply: &mut [u64],
 ) -> u64
     requires { ⌜ (length (now forecast) ≡ 37) × (2 ≤ length (now reply)) ⌝ }
-    ensures { λ r. ⌜ Gives (calls.delete profile (now (list .entry)) (now (table .entry)) (now (forecast .entry)) key (now (reply .entry))) r (now (list .exit) ∷ now (table .exit) ∷ now (forecast .exit) ∷ now (reply .exit) ∷ []) ⌝ }
+    ensures { λ r. ⌜ Gives (calls.delete profile (now (list .entry)) (now (cards .entry)) (now (table .entry)) (now (forecast .entry)) key (now (reply .entry))) r (now (list .exit) ∷ now (cards .exit) ∷ now (table .exit) ∷ now (forecast .exit) ∷ now (reply .exit) ∷ []) ⌝ }
 {
     let given = words::read_forecast(forecast);
-    let done = list::changing::delete(profile, list, table, given, key);
+    let done = list::changing::delete(profile, list, cards, table, given, key);
     posts::post_delete(done, forecast, reply)
 }
 
@@ -44,6 +47,7 @@ pub fn delete(
 pub fn run(
     profile: u64,
     list: &mut [u64],
+    cards: &mut [u32],
     table: &mut [usize],
     forecast: &mut [u64],
     requests: &[u8],
@@ -52,11 +56,20 @@ pub fn run(
     reply: &mut [u64],
 ) -> u64
     requires { ⌜ (length (now forecast) ≡ 37) × (length (now totals) ≡ 4) × (4 ≤ length (now reply)) ⌝ }
-    ensures { λ r. ⌜ Gives (calls.run profile (now (list .entry)) (now (table .entry)) (now (forecast .entry)) (now (requests .entry)) allowance (now (totals .entry)) (now (reply .entry))) r (now (list .exit) ∷ now (table .exit) ∷ now (forecast .exit) ∷ now (totals .exit) ∷ now (reply .exit) ∷ []) ⌝ }
+    ensures { λ r. ⌜ Gives (calls.run profile (now (list .entry)) (now (cards .entry)) (now (table .entry)) (now (forecast .entry)) (now (requests .entry)) allowance (now (totals .entry)) (now (reply .entry))) r (now (list .exit) ∷ now (cards .exit) ∷ now (table .exit) ∷ now (forecast .exit) ∷ now (totals .exit) ∷ now (reply .exit) ∷ []) ⌝ }
 {
     let given = words::read_forecast(forecast);
     let before = words::totals::read_totals(totals);
-    let ran = told::run_told(profile, list, table, given, requests, allowance, before);
+    let ran = told::run_told(
+        profile,
+        list,
+        cards,
+        table,
+        given,
+        requests,
+        allowance,
+        before,
+    );
     let done = ran.told;
     let stop = done.stop;
     let left = done.forecast;

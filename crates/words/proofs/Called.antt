@@ -1,5 +1,5 @@
--- The calls on what bytes hold of a forecast: the same numbers, answers, slots and table; the same forecast where the call is done; and where
--- it is refused, the forecast lent is left, so that its words need not be written.
+-- The calls on what bytes hold of a forecast: the same numbers, answers, slots, cards and table; the same forecast where the call is done;
+-- and where it is refused, the forecast lent is left, so that its words need not be written.
 use Prim.Native.Nat.{ℕ, _^_, _≤_}
 use mathlib.Core.Path.{_≡_, refl, sym, ap, _∙_}
 use mathlib.Core.Bool.{Bool, true, false, not}
@@ -22,9 +22,10 @@ use Rattle.rules.specs.declared.Totals.{Totals}
 use Rattle.rules.specs.Shares.{cellsOf}
 use Rattle.rules.specs.Placing.{refused}
 use Rattle.rules.specs.Lent.{Lent}
-use Rattle.rules.specs.Checks.{sharesOf, checkList, checkBoth, thenTable, check}
+use Rattle.rules.specs.Checks.{sharesOf, checkCards, thenForecast, thenTable, check, checkList, checkBoth}
 use Rattle.rules.specs.Calls.{Called, request, Worked, stoppedAtOnce, run}
 use Rattle.rules.proofs.Requests.Checked.{passed, both-pass}
+use Rattle.rules.proofs.Requests.CardsChecked.{cards-tested}
 use Rattle.rules.proofs.Requests.Tabled.{room-passes}
 use Rattle.rules.proofs.Requests.SingleCalls.{request-unchecked}
 use Rattle.rules.proofs.Refusals.Refused.{request-refused}
@@ -47,13 +48,13 @@ module _ (profile : ℕ) (slots : List ℕ) (F : Forecast) where
   few-segments e =
       omega (arith, length-segments slots (2 ^ heightOf (length slots)) (passed profile slots e .number), pow-le-pow-right {n = 2} (omega arith) {i = heightOf (length slots)} {j = 6} (passed profile slots e .to))
 
-  -- list and forecast get the same number
-  both-same : checkBoth profile slots (saturated F) ≡ checkBoth profile slots F
-  unfolding checkBoth
-  both-same = go (eqb (checkList profile slots) 0) (eqb→eq (checkList profile slots) 0)
+  -- list and forecast get the same number; n is the number by the tests before, 0 only where the list passes
+  forecast-same : (n : ℕ) → (n ≡ 0 → checkList profile slots ≡ 0) → thenForecast n profile slots (saturated F) ≡ thenForecast n profile slots F
+  unfolding thenForecast
+  forecast-same n l = go (eqb n 0) (λ t. l (eqb→eq n 0 t))
     where
       go : (b : Bool) → (T b → checkList profile slots ≡ 0)
-          → _≡_ {A = ℕ} (if not b then checkList profile slots else if not (isSound (faultOf P ss (saturated F))) then 4 else 0) (if not b then checkList profile slots else if not (isSound (faultOf P ss F)) then 4 else 0)
+          → _≡_ {A = ℕ} (if not b then n else if not (isSound (faultOf P ss (saturated F))) then 4 else 0) (if not b then n else if not (isSound (faultOf P ss F)) then 4 else 0)
       go true p = ap {B = ℕ} (λ (f : Fault). if not (isSound f) then 4 else 0) (fault-same P (omega (arith, few-cells (p tt))) ss (omega (arith, few-segments (p tt))) F)
       go false p = refl
 
@@ -63,11 +64,11 @@ module _ (profile : ℕ) (slots : List ℕ) (F : Forecast) where
       let l = both-pass profile slots F e .0 in
       sound-same P (omega (arith, few-cells l)) ss (omega (arith, few-segments l)) F (few-cells l) r (both-pass profile slots F e .1)
 
--- CHECK gives the same number, the table being the same; a forecast that passes is held whole
+-- CHECK gives the same number, cards and table being the same; a forecast that passes is held whole
 module _ (profile : ℕ) (L : Lent) (F : Forecast) where
   pub check-same : check profile L (saturated F) ≡ check profile L F
   unfolding check
-  check-same = ap (λ (n : ℕ). thenTable n L) (both-same profile (L .slots) F)
+  check-same = ap (λ (n : ℕ). thenTable n L) (forecast-same profile (L .slots) F (checkCards profile L) (λ z. cards-tested profile L z .0))
 
   pub checked-same : check profile L F ≡ 0 → Roomy F → saturated F ≡ F
   checked-same e r = held-whole profile (L .slots) F (room-passes profile L F e) r
@@ -79,26 +80,27 @@ pub record SameCall (F : Forecast) (c′ c : Called) : Type 0 where
   pub done : c .answer .number ≡ 0 → c′ .forecast ≡ c .forecast
   pub left : c .answer .number ≢ 0 → c .forecast ≡ F
 
-pub request-same : (profile : ℕ) (q : Request) (L : Lent) (F : Forecast) → Roomy F → SameCall F (request profile q L (saturated F)) (request profile q L F)
-request-same profile q L F r =
+-- v is the card that comes with it
+pub request-same : (profile : ℕ) (q : Request) (v : ℕ) (L : Lent) (F : Forecast) → Roomy F → SameCall F (request profile q v L (saturated F)) (request profile q v L F)
+request-same profile q v L F r =
     elim (tested (eqb (check profile L F) 0)) [
       | inl t ↦
-          (let e : request profile q L (saturated F) ≡ request profile q L F = ap (request profile q L) (checked-same profile L F (eqb→eq _ _ t) r) in
+          (let e : request profile q v L (saturated F) ≡ request profile q v L F = ap (request profile q v L) (checked-same profile L F (eqb→eq _ _ t) r) in
           record {
             answer = ap (λ (c : Called). c .answer) e;
             lent = ap (λ (c : Called). c .lent) e;
             done = λ z. ap (λ (c : Called). c .forecast) e;
-            left = λ z. ap (λ (c : Called). c .forecast) (request-refused profile q L F z);
+            left = λ z. ap (λ (c : Called). c .forecast) (request-refused profile q v L F z);
           })
       | inr t ↦
           (let n : check profile L F ≢ 0 = neqb→ne _ _ t in
-          let e = request-unchecked profile q L F n in
-          let e′ = request-unchecked profile q L (saturated F) (λ z. n (sym (check-same profile L F) ∙ z)) in
+          let e = request-unchecked profile q v L F n in
+          let e′ = request-unchecked profile q v L (saturated F) (λ z. n (sym (check-same profile L F) ∙ z)) in
           record {
             answer = ap (λ (c : Called). c .answer) e′ ∙ ap refused (check-same profile L F) ∙ sym (ap (λ (c : Called). c .answer) e);
             lent = ap (λ (c : Called). c .lent) e′ ∙ sym (ap (λ (c : Called). c .lent) e);
             done = λ z. absurd (n (sym (ap (λ (c : Called). c .answer .number) e) ∙ z));
-            left = λ z. ap (λ (c : Called). c .forecast) (request-refused profile q L F z);
+            left = λ z. ap (λ (c : Called). c .forecast) (request-refused profile q v L F z);
           })
     ]
 

@@ -10,7 +10,9 @@ pub fn refusal_number(refusal: Refusal) -> u64
     match refusal {
         Refusal::UnknownProfile => 15,
         Refusal::WrongLength => 1,
+        Refusal::WrongCards => 12,
         Refusal::WrongOrder => 2,
+        Refusal::CardInGap => 13,
         Refusal::TooManyKeys => 3,
         Refusal::WrongForecast => 4,
         Refusal::WrongTable => 14,

@@ -12,7 +12,7 @@ enum-told : tie.Need-enum-told
 enum-told c = search needs
 
 returns : tie.Need-returns
-returns c profile slots m look list e counting =
+returns c profile slots cards m look list e counting =
     let some : m ≢ 0 = λ z. refused-some _ _ (c .enum-told .given .1) (look .number ∙ z) in
     renumbered _ (sym (number-stays m _ some)) look
 
@@ -26,19 +26,19 @@ is-right-requires c κs =
     table-asks (p .0) (p .1) (s .args .table .now) (p .2) (s .args .n) (s .args .listing) (s .args .counts .now) (p .3) (p .4) (p .5) (p .6) (c .enum-told2 .given .1)
 
 returns-2 : tie.Need-returns-2
-returns-2 c profile slots m look list e counting =
+returns-2 c profile slots cards m look list e counting =
     let test = c .before in
     let s = test .before .before .before .before .before in
-    right-looked profile slots (s .args .table .now) m (s .args .n) (s .args .listing) (s .args .counts .now) look list e counting (test .before .enum-told2 .given .1) _ (test .is-right .ensures) (c .if1 .taken)
+    right-looked profile slots (s .args .table .now) m (s .args .n) (s .args .listing) (s .args .counts .now) look list e counting (test .before .enum-told2 .given .1) cards _ (test .is-right .ensures) (c .if1 .taken)
 
 refuse-requires : tie.Need-refuse-requires
 refuse-requires c κs = search needs
 
 returns-3 : tie.Need-returns-3
-returns-3 c profile slots m look list e counting =
+returns-3 c profile slots cards m look list e counting =
     let test = c .before .before in
     let s = test .before .before .before .before .before in
-    wrong-looked profile slots (s .args .table .now) m (s .args .n) (s .args .listing) (s .args .counts .now) look list e counting (test .before .enum-told2 .given .1) _ (test .is-right .ensures) (c .before .if1 .left) _ (c .refuse .ensures)
+    wrong-looked profile slots (s .args .table .now) m (s .args .n) (s .args .listing) (s .args .counts .now) look list e counting (test .before .enum-told2 .given .1) cards _ (test .is-right .ensures) (c .before .if1 .left) _ (c .refuse .ensures)
 
 pub then-table-spec : {M : Type 1} → statement M
 then-table-spec = tie.close (tie.spec enum-told returns enum-told-2 is-right-requires returns-2 refuse-requires returns-3)

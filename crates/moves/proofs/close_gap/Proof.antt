@@ -1,4 +1,4 @@
--- close_gap meets its contract: a movement to the left and one store.
+-- close_gap meets its contract: a movement to the left and one store, of slots and of cards.
 use native.Mathlib.Omega.{arith}
 use Rattle.moves.proofs.Gaps.{close-step}
 use borrow.Author.Needs.{needs}
@@ -26,11 +26,25 @@ mul-part c = search needs
 slice-write-part : tie.Need-slice-write-part
 slice-write-part c = search needs
 
+sub-cards : tie.Need-sub-cards
+sub-cards c = search needs
+
+mul-cards : tie.Need-mul-cards
+mul-cards c = search needs
+
+slice-write-cards : tie.Need-slice-write-cards
+slice-write-cards c = search needs
+
 same-length : tie.Need-same-length
 same-length c = search needs
 
+same-length-2 : tie.Need-same-length-2
+same-length-2 c = search needs
+
 returns : tie.Need-returns
-returns c = rw (c .before .before .move-left .ensures) (close-step _ _ _ _ (omega arith) (omega arith))
+returns c =
+    let promise = c .before .before .before .before .move-left .ensures in
+    (rw (promise .0) (close-step _ _ _ _ (omega arith) (omega arith)), rw (promise .1) (close-step _ _ _ _ (omega arith) (omega arith)))
 
 pub close-gap-spec : {M : Type 1} → statement M
 close-gap-spec =
@@ -43,5 +57,9 @@ close-gap-spec =
     sub-part
     mul-part
     slice-write-part
+    sub-cards
+    mul-cards
+    slice-write-cards
     same-length
+    same-length-2
     returns)

@@ -1,4 +1,4 @@
--- few_left meets its contract. Invariant: after i turns the part is that of a movement of i slots.
+-- few_left meets its contract. Invariant: after i turns the part and its cards are those of a movement of i slots.
 use Prim.Native.Nat.{ℕ, _-_, _≤_}
 use mathlib.Core.Path.{_≡_, ap, _∙_}
 use native.Mathlib.Omega.{arith}
@@ -9,14 +9,14 @@ use Rattle.moves.proofs.few_left.Statement.{statement}
 use Rattle.moves.proofs.few_left.Tie as tie
 
 abbrev Inv-loop : tie.InvT-loop
-Inv-loop part₀ from to count i₀ part i =
-    (i ≤ count) × (length part ≡ length part₀) × (part ≡ moved from to i part₀)
+Inv-loop part₀ cards₀ from to count i₀ part cards i =
+    (i ≤ count) × (length part ≡ length part₀) × (length cards ≡ length cards₀) × (part ≡ moved from to i part₀) × (cards ≡ moved from to i cards₀)
 
 abbrev μ-loop : tie.MeasureT-loop
-μ-loop part₀ from to count i₀ part i = count - i
+μ-loop part₀ cards₀ from to count i₀ part cards i = count - i
 
 loop-holds : tie.Need-loop-holds Inv-loop μ-loop
-loop-holds c = (omega arith, omega arith, left-none _ (c .args .from) (c .args .to))
+loop-holds c = (omega arith, omega arith, omega arith, left-none _ (c .args .from) (c .args .to), left-none _ (c .args .from) (c .args .to))
 
 add-part : tie.Need-add-part Inv-loop μ-loop
 add-part c = omega arith
@@ -36,6 +36,24 @@ mul-part-2 c = omega arith
 slice-write-part : tie.Need-slice-write-part Inv-loop μ-loop
 slice-write-part c = omega arith
 
+add-cards : tie.Need-add-cards Inv-loop μ-loop
+add-cards c = omega arith
+
+mul-cards : tie.Need-mul-cards Inv-loop μ-loop
+mul-cards c = omega arith
+
+slice-read-cards : tie.Need-slice-read-cards Inv-loop μ-loop
+slice-read-cards c = omega arith
+
+add-cards-2 : tie.Need-add-cards-2 Inv-loop μ-loop
+add-cards-2 c = omega arith
+
+mul-cards-2 : tie.Need-mul-cards-2 Inv-loop μ-loop
+mul-cards-2 c = omega arith
+
+slice-write-cards : tie.Need-slice-write-cards Inv-loop μ-loop
+slice-write-cards c = omega arith
+
 add-i : tie.Need-add-i Inv-loop μ-loop
 add-i c = omega arith
 
@@ -44,21 +62,51 @@ loop-less c = omega arith
 
 loop-again : tie.Need-loop-again Inv-loop μ-loop
 loop-again c =
-    let a = c .before .before .before .args in
-    let i = c .before .before .loop .i in
-    let inv = c .before .before .loop .inv in
-    (omega arith, simp length-set (omega arith), rw (inv .2) (left-more _ (a .from) (a .to) i 0 (omega arith) (omega arith)))
+    let a = c .before .before .before .before .args in
+    let i = c .before .before .before .loop .i in
+    let inv = c .before .before .before .loop .inv in (
+      omega arith,
+      simp length-set (omega arith),
+      simp length-set (omega arith),
+      rw (inv .3) (left-more _ (a .from) (a .to) i 0 (omega arith) (omega arith)),
+      rw (inv .4) (left-more _ (a .from) (a .to) i 0 (omega arith) (omega arith)),
+    )
 
 same-length : tie.Need-same-length Inv-loop μ-loop
 same-length c = omega arith
 
+same-length-2 : tie.Need-same-length-2 Inv-loop μ-loop
+same-length-2 c = omega arith
+
 returns : tie.Need-returns Inv-loop μ-loop
 returns c =
     let a = c .before .before .args in
+    let inv = c .before .loop .inv in
     let e : c .before .loop .i ≡ a .count = omega arith in
-    c .before .loop .inv .2 ∙ ap (λ (n : ℕ). moved (a .from) (a .to) n (a .part .now)) e
+    (inv .3 ∙ ap (λ (n : ℕ). moved (a .from) (a .to) n (a .part .now)) e, inv .4 ∙ ap (λ (n : ℕ). moved (a .from) (a .to) n (a .cards .now)) e)
 
 pub few-left-spec : {M : Type 1} → statement M
 few-left-spec =
     tie.close
-    (tie.spec Inv-loop μ-loop loop-holds add-part mul-part slice-read-part add-part-2 mul-part-2 slice-write-part add-i loop-less loop-again same-length returns)
+    (tie.spec
+    Inv-loop
+    μ-loop
+    loop-holds
+    add-part
+    mul-part
+    slice-read-part
+    add-part-2
+    mul-part-2
+    slice-write-part
+    add-cards
+    mul-cards
+    slice-read-cards
+    add-cards-2
+    mul-cards-2
+    slice-write-cards
+    add-i
+    loop-less
+    loop-again
+    same-length
+    same-length-2
+    returns)

@@ -1,4 +1,4 @@
--- open_gap meets its contract: a movement to the right and one store.
+-- open_gap meets its contract: a movement to the right and one store, of slots and of cards.
 use native.Mathlib.Omega.{arith}
 use Rattle.moves.proofs.Gaps.{open-step}
 use borrow.Author.Needs.{needs}
@@ -20,11 +20,22 @@ mul-part c = search needs
 slice-write-part : tie.Need-slice-write-part
 slice-write-part c = search needs
 
+mul-cards : tie.Need-mul-cards
+mul-cards c = search needs
+
+slice-write-cards : tie.Need-slice-write-cards
+slice-write-cards c = search needs
+
 same-length : tie.Need-same-length
 same-length c = search needs
 
+same-length-2 : tie.Need-same-length-2
+same-length-2 c = search needs
+
 returns : tie.Need-returns
-returns c = rw (c .before .before .move-right .ensures) (open-step _ _ _ _ (omega arith) (omega arith))
+returns c =
+    let promise = c .before .before .before .before .move-right .ensures in
+    (rw (promise .0) (open-step _ _ _ _ (omega arith) (omega arith)), rw (promise .1) (open-step _ _ _ _ (omega arith) (omega arith)))
 
 pub open-gap-spec : {M : Type 1} → statement M
 open-gap-spec =
@@ -35,5 +46,8 @@ open-gap-spec =
     move-right-requires
     mul-part
     slice-write-part
+    mul-cards
+    slice-write-cards
     same-length
+    same-length-2
     returns)

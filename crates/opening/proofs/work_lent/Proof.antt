@@ -11,7 +11,7 @@ use Rattle.checks.specs.Listings.{LentLooked}
 use Rattle.checks.proofs.Numbers.{refused-some}
 use Rattle.aims.specs.Aims.{Stands}
 use Rattle.aims.proofs.Standing.{small-stands}
-use Rattle.opening.proofs.Ready.{ready-passes, ready-stands, ready-ends, ready-index}
+use Rattle.opening.proofs.Ready.{ready-passes, ready-stands, ready-ends, ready-index, ready-cards}
 use borrow.Author.Needs.{needs}
 use Rattle.opening.proofs.work_lent.Statement.{statement}
 use Rattle.opening.proofs.work_lent.Tie as tie
@@ -46,13 +46,13 @@ enum-told-2 c = search needs
 -- the check accepts
 module _ (c : tie.After-shape) where
   abbrev number : ℕ
-  number = c .before .before .before .before .before .before .before .before .before .args .profile
+  number = c .before .before .before .before .before .before .before .before .before .before .before .args .profile
 
   abbrev given : Lent
-  given = lend (c .before .before .before .before .before .before .before .before .before .args .list .now) (c .before .before .before .before .before .before .before .before .before .args .table .now)
+  given = lend (c .before .before .before .before .before .before .before .before .before .before .before .args .list .now) (c .before .before .before .before .before .before .before .before .before .before .before .args .cards .now) (c .before .before .before .before .before .before .before .before .before .before .before .args .table .now)
 
   abbrev told : Forecast
-  told = c .before .before .before .before .before .before .before .before .before .args .forecast
+  told = c .before .before .before .before .before .before .before .before .before .before .before .args .forecast
 
   abbrev listing : Listing
   listing = c .before .before .before .look-lent .result
@@ -80,8 +80,10 @@ slice-aggregate-work-2 c = search needs
 
 work-requires : tie.Need-work-requires
 work-requires c κs =
-    let a = c .before .before .before .before .before .before .before .before in
-    (stands a, ready-index (number a) (given a) (told a) (listing a) (looked a) (accepted a) _ (c .before .before .before .before .before .bound .ensures), refl)
+    let a = c .before .before .before .before .before .before .before .before .before in (
+      (stands a, ready-index (number a) (given a) (told a) (listing a) (looked a) (accepted a) _ (c .before .before .before .before .before .before .bound .ensures), refl),
+      ready-cards (number a) (given a) (told a) (listing a) (looked a) (accepted a),
+    )
 
 same-length-3 : tie.Need-same-length-3
 same-length-3 c = search needs
@@ -89,10 +91,16 @@ same-length-3 c = search needs
 same-length-4 : tie.Need-same-length-4
 same-length-4 c = search needs
 
+same-length-5 : tie.Need-same-length-5
+same-length-5 c = search needs
+
+same-length-6 : tie.Need-same-length-6
+same-length-6 c = search needs
+
 returns-2 : tie.Need-returns-2
 returns-2 c =
-    let work = c .before .before .before .before .before .before in
-    let a = work .before .before .before .before .before .before .before .before .before in
+    let work = c .before .before .before .before .before .before .before .before in
+    let a = work .before .before .before .before .before .before .before .before .before .before in
     record {
       refused = λ n. absurd (n (ready-passes (number a) (given a) (told a) (listing a) (looked a) (accepted a)));
       ended = λ e. ready-ends (number a) (given a) (told a) (listing a) (looked a) (accepted a) (work .work .ensures);
@@ -107,6 +115,7 @@ work-lent-spec =
     none-requires
     same-length
     same-length-2
+    same-length-3
     returns
     enum-told-2
     slice-aggregate-bound
@@ -114,6 +123,7 @@ work-lent-spec =
     slice-aggregate-work
     slice-aggregate-work-2
     work-requires
-    same-length-3
     same-length-4
+    same-length-5
+    same-length-6
     returns-2)

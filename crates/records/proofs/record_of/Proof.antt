@@ -1,70 +1,86 @@
--- `record_of` writes a request's record: its bytes, read high byte first, are the key.
-use mathlib.Core.Path.{_≡_, sym, ap, _∙_}
-use mathlib.Core.Logic.{inl, inr}
-use native.Mathlib.Omega.{arith}
+-- `record_of` reads the record that the bytes begin with: a return for each test.
+use mathlib.Core.Path.{sym, ap, _∙_}
 use borrow.Author.Needs.{needs}
-use Rattle.records.proofs.RecordBytes.{kindOf, one-record}
+use Rattle.rules.specs.declared.Record.{Record}
+use Rattle.rules.specs.declared.Request.the-variants.{Insert, Delete}
+use Rattle.rules.specs.Runs.{asking}
+use Rattle.records.proofs.Reading as reading
 use Rattle.records.proofs.record_of.Statement.{statement}
 use Rattle.records.proofs.record_of.Tie as tie
 
-byte-requires : tie.Need-byte-requires
-byte-requires c κs = search needs
+bad-requires : tie.Need-bad-requires
+bad-requires c κs = search needs
 
-byte-requires-2 : tie.Need-byte-requires-2
-byte-requires-2 c κs = search needs
+bad-requires-2 : tie.Need-bad-requires-2
+bad-requires-2 c κs = search needs
 
-byte-requires-3 : tie.Need-byte-requires-3
-byte-requires-3 c κs = search needs
+bad-requires-3 : tie.Need-bad-requires-3
+bad-requires-3 c κs = search needs
 
-byte-requires-4 : tie.Need-byte-requires-4
-byte-requires-4 c κs = search needs
+bad-requires-4 : tie.Need-bad-requires-4
+bad-requires-4 c κs = search needs
 
-byte-requires-5 : tie.Need-byte-requires-5
-byte-requires-5 c κs = search needs
+with-card-requires : tie.Need-with-card-requires
+with-card-requires c κs = search needs
 
-byte-requires-6 : tie.Need-byte-requires-6
-byte-requires-6 c κs = search needs
+key-of-requires : tie.Need-key-of-requires
+key-of-requires c κs = search needs
 
-byte-requires-7 : tie.Need-byte-requires-7
-byte-requires-7 c κs = search needs
+key-of-requires-2 : tie.Need-key-of-requires-2
+key-of-requires-2 c κs = search needs
 
-byte-requires-8 : tie.Need-byte-requires-8
-byte-requires-8 c κs = search needs
+shared-slice-read-if2 : tie.Need-shared-slice-read-if2
+shared-slice-read-if2 c = search needs
 
--- where the two arms meet
-kind-is : (j : tie.Joined1) → j .if1 .kind ≡ kindOf (j .before .args .grows)
-kind-is j =
-    elim (j .if1 .came) [
-      | inl t ↦ t .1 ∙ sym (ap kindOf (t .0 .taken))
-      | inr t ↦ t .1 ∙ sym (ap kindOf (t .0 .left))
-    ]
+shared-slice-read-if3 : tie.Need-shared-slice-read-if3
+shared-slice-read-if3 c = search needs
+
+shared-slice-read-kind : tie.Need-shared-slice-read-kind
+shared-slice-read-kind c = search needs
 
 returns : tie.Need-returns
-returns c =
-    let j = c .before .before .before .before .before .before .before .before in
-    rw (
-      kind-is j,
-      c .before .before .before .before .before .before .before .byte .ensures,
-      c .before .before .before .before .before .before .byte2 .ensures,
-      c .before .before .before .before .before .byte3 .ensures,
-      c .before .before .before .before .byte4 .ensures,
-      c .before .before .before .byte5 .ensures,
-      c .before .before .byte6 .ensures,
-      c .before .byte7 .ensures,
-      c .byte8 .ensures,
-    )
-    (one-record (j .before .args .grows) (j .before .args .key) (omega arith))
+returns c = c .bad .ensures ∙ sym (reading.too-short _ (c .before .if1 .taken))
+
+returns-2 : tie.Need-returns-2
+returns-2 c = c .bad2 .ensures ∙ sym (reading.first-wrong _ (c .before .before .before .if1 .left) (c .before .if2 .taken))
+
+returns-3 : tie.Need-returns-3
+returns-3 c = c .bad3 .ensures ∙ sym (reading.second-wrong _ (c .before .before .before .before .before .if1 .left) (c .before .before .before .if2 .left) (c .before .if3 .taken))
+
+returns-4 : tie.Need-returns-4
+returns-4 c = c .with-card .ensures ∙ sym (reading.kind-four _ (c .before .before .before .before .before .before .before .if1 .left) (c .before .before .before .before .before .if2 .left) (c .before .before .before .if3 .left) (c .before .if4 .taken))
+
+returns-5 : tie.Need-returns-5
+returns-5 c =
+    ap {B = Record} (λ k. asking (Insert k) 0 11) (c .key-of .ensures)
+    ∙ sym (reading.kind-one _ (c .before .before .before .before .before .before .before .before .if1 .left) (c .before .before .before .before .before .before .if2 .left) (c .before .before .before .before .if3 .left) (c .before .if5 .taken))
+
+returns-6 : tie.Need-returns-6
+returns-6 c =
+    ap {B = Record} (λ k. asking (Delete k) 0 11) (c .key-of2 .ensures)
+    ∙ sym (reading.kind-two _ (c .before .before .before .before .before .before .before .before .before .if1 .left) (c .before .before .before .before .before .before .before .if2 .left) (c .before .before .before .before .before .if3 .left) (c .before .if6 .taken))
+
+returns-7 : tie.Need-returns-7
+returns-7 c = c .bad4 .ensures ∙ sym (reading.kind-else _ (c .before .before .before .before .before .before .before .before .before .if1 .left) (c .before .before .before .before .before .before .before .if2 .left) (c .before .before .before .before .before .if3 .left) (c .before .before .before .if4 .left) (c .before .before .if5 .left) (c .before .if6 .left))
 
 pub record-of-spec : {M : Type 1} → statement M
 record-of-spec =
     tie.close
     (tie.spec
-    byte-requires
-    byte-requires-2
-    byte-requires-3
-    byte-requires-4
-    byte-requires-5
-    byte-requires-6
-    byte-requires-7
-    byte-requires-8
-    returns)
+    bad-requires
+    returns
+    shared-slice-read-if2
+    bad-requires-2
+    returns-2
+    shared-slice-read-if3
+    bad-requires-3
+    returns-3
+    shared-slice-read-kind
+    with-card-requires
+    returns-4
+    key-of-requires
+    returns-5
+    key-of-requires-2
+    returns-6
+    bad-requires-4
+    returns-7)

@@ -15,7 +15,7 @@ use Rattle.forecast.specs.Cells.{cells, forecastOf}
 use Rattle.forecast.specs.Faults.{faultAt, faultOf}
 use Rattle.rules.specs.Placing.{settled, insertLevel, insertKey, outcome}
 use Rattle.rules.specs.Lent.{Lent, lend}
-use Rattle.rules.specs.Checks.{checkList, checkBoth, thenTable, checkRead, check}
+use Rattle.rules.specs.Checks.{checkCards, thenForecast, thenTable, checkRead, check}
 use Rattle.rules.specs.Calls.{notMade, make, lookup, scan, request, insert}
 use Rattle.rules.proofs.Cases.RefusalCases.{slots, uncounted}
 
@@ -29,29 +29,29 @@ round-segment-2 = (refl, refl, refl)
 
 -- THE CHECK of slots with 2 and 1 keys, beside an empty forecast
 abbrev beside : List ℕ → Lent
-beside table = lend (slots 2 1) table
+beside table = lend (slots 2 1) (replicate 128 0) table
 
 abbrev none : Forecast
 none = forecastOf []
 
 pub right-passes : check 1 (beside (2 ∷ 1 ∷ 3 ∷ [])) none ≡ 0
-unfolding check checkBoth thenTable checkList tableOf heightOf orderOf faultOf faultAt cells padded forecastOf segmentsOf segmentOf
+unfolding check thenForecast thenTable checkCards tableOf heightOf orderOf faultOf faultAt cells padded forecastOf segmentsOf segmentOf
 right-passes = refl
 
 -- an entry of the first segment, of the last and of the whole array; one entry too few, one too many
 pub wrong-tables : (check 1 (beside (1 ∷ 1 ∷ 3 ∷ [])) none ≡ 14) × (check 1 (beside (2 ∷ 0 ∷ 3 ∷ [])) none ≡ 14) × (check 1 (beside (2 ∷ 1 ∷ 4 ∷ [])) none ≡ 14)
     × (check 1 (beside (2 ∷ 1 ∷ [])) none ≡ 14) × (check 1 (beside (2 ∷ 1 ∷ 3 ∷ 0 ∷ [])) none ≡ 14)
-unfolding check checkBoth thenTable checkList tableOf heightOf orderOf faultOf faultAt cells padded forecastOf segmentsOf segmentOf
+unfolding check thenForecast thenTable checkCards tableOf heightOf orderOf faultOf faultAt cells padded forecastOf segmentsOf segmentOf
 wrong-tables = (refl, refl, refl, refl, refl)
 
 -- a bad forecast is told before a wrong table, and wrong order too
-pub table-told-last : (check 1 (beside []) uncounted ≡ 4) × (check 1 (lend (2 ∷ 1 ∷ replicate 126 0) []) none ≡ 2)
-unfolding check checkBoth thenTable checkList tableOf heightOf orderOf faultOf faultAt cells padded forecastOf segmentsOf segmentOf
+pub table-told-last : (check 1 (beside []) uncounted ≡ 4) × (check 1 (lend (2 ∷ 1 ∷ replicate 126 0) (replicate 128 0) []) none ≡ 2)
+unfolding check thenForecast thenTable checkCards tableOf heightOf orderOf faultOf faultAt cells padded forecastOf segmentsOf segmentOf
 table-told-last = (refl, refl)
 
 -- LOOKUP AND SCAN tell it too, before key 0
-pub reads-told : (lookup 1 (beside (2 ∷ 1 ∷ 4 ∷ [])) 0 .number ≡ 14) × (scan 1 (beside (2 ∷ 1 ∷ 4 ∷ [])) 0 (7 ∷ []) ≡ record { number = 14; written = 0; more = false; output = 7 ∷ [] })
-unfolding lookup scan checkRead thenTable checkList tableOf heightOf orderOf segmentsOf
+pub reads-told : (lookup 1 (beside (2 ∷ 1 ∷ 4 ∷ [])) 0 .number ≡ 14) × (scan 1 (beside (2 ∷ 1 ∷ 4 ∷ [])) 0 (7 ∷ []) (8 ∷ []) ≡ record { number = 14; written = 0; more = false; output = 7 ∷ []; cards = 8 ∷ [] })
+unfolding lookup scan checkRead thenTable checkCards tableOf heightOf orderOf segmentsOf
 reads-told = (refl, refl)
 
 -- MAKE tests the length alone: it leaves all, or writes 0 in all
@@ -59,11 +59,11 @@ pub make-short : make 1 (beside (2 ∷ 1 ∷ [])) ≡ notMade (beside (2 ∷ 1 �
 unfolding make heightOf
 make-short = refl
 
-pub make-wrong-entries : make 1 (beside (9 ∷ 9 ∷ 9 ∷ [])) .lent ≡ lend (replicate 128 0) (0 ∷ 0 ∷ 0 ∷ [])
+pub make-wrong-entries : make 1 (beside (9 ∷ 9 ∷ 9 ∷ [])) .lent ≡ lend (replicate 128 0) (replicate 128 0) (0 ∷ 0 ∷ 0 ∷ [])
 unfolding make heightOf
 make-wrong-entries = refl
 
 -- AN INSERT leaves the table with one key more, and a refused one leaves it
-pub insert-counts : (insert 1 (beside (2 ∷ 1 ∷ 3 ∷ [])) none 102 .lent .table ≡ 2 ∷ 2 ∷ 4 ∷ []) × (insert 1 (beside (2 ∷ 1 ∷ 3 ∷ [])) none 101 .lent .table ≡ 2 ∷ 1 ∷ 3 ∷ [])
-unfolding request check checkBoth thenTable checkList tableOf heightOf orderOf faultOf faultAt cells padded forecastOf segmentsOf segmentOf predecessor raised tailed noted settled insertLevel insertKey outcome render
+pub insert-counts : (insert 1 (beside (2 ∷ 1 ∷ 3 ∷ [])) none 102 0 .lent .table ≡ 2 ∷ 2 ∷ 4 ∷ []) × (insert 1 (beside (2 ∷ 1 ∷ 3 ∷ [])) none 101 0 .lent .table ≡ 2 ∷ 1 ∷ 3 ∷ [])
+unfolding request check thenForecast thenTable checkCards tableOf heightOf orderOf faultOf faultAt cells padded forecastOf segmentsOf segmentOf predecessor raised tailed noted settled insertLevel insertKey outcome render
 insert-counts = (refl, refl)

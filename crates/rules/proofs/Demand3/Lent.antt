@@ -32,24 +32,24 @@ use Rattle.rules.proofs.Demand3.Inside.{inside-kept}
 use Rattle.rules.proofs.Demand3.Again.{swept-again}
 
 -- ONE CALL
-module _ (profile : ℕ) (q : Request) (L : Lent) (F : Forecast) where
-  stays-lent : request profile q L F .answer .number ≢ 0 → request profile q L F .lent .slots ≡ L .slots
-  stays-lent n = ap (λ (c : Called). c .lent .slots) (request-refused profile q L F n)
+module _ (profile : ℕ) (q : Request) (v : ℕ) (L : Lent) (F : Forecast) where
+  stays-lent : request profile q v L F .answer .number ≢ 0 → request profile q v L F .lent .slots ≡ L .slots
+  stays-lent n = ap (λ (c : Called). c .lent .slots) (request-refused profile q v L F n)
 
-  module _ (e : request profile q L F .answer .number ≡ 0) where
+  module _ (e : request profile q v L F .answer .number ≡ 0) where
     -- what is accepted has passed the check, and the rules accept it
     passes : check profile L F ≡ 0
     passes = go (eqb (check profile L F) 0) (eqb→eq _ _) (neqb→ne _ _)
       where
         go : (b : Bool) → (T b → check profile L F ≡ 0) → (T (not b) → check profile L F ≢ 0) → check profile L F ≡ 0
         go true p n = p tt
-        go false p n = sym (ap (λ (c : Called). c .answer .number) (request-unchecked profile q L F (n tt))) ∙ e
+        go false p n = sym (ap (λ (c : Called). c .answer .number) (request-unchecked profile q v L F (n tt))) ∙ e
 
     sound : checkBoth profile (L .slots) F ≡ 0
     sound = room-passes profile L F passes
 
     accepts : lentOutcome profile q (L .slots) F .answer .number ≡ 0
-    accepts = sym (ap (λ (a : Answer). a .number) (request-answer profile q L F passes)) ∙ e
+    accepts = sym (ap (λ (a : Answer). a .number) (request-answer profile q v L F passes)) ∙ e
 
     accepted-lent : T (accepted (sharesOf profile (L .slots)) q (roomOf (L .slots) F))
     accepted-lent = eq→eqb _ 0 accepts
@@ -61,38 +61,38 @@ module _ (profile : ℕ) (q : Request) (L : Lent) (F : Forecast) where
     proper-lent = checked profile (L .slots) F sound .2 .proper
 
     -- the slots that it leaves show the segments that the rules leave, at the same height
-    segments-left : segmentsOf (request profile q L F .lent .slots) ≡ lentOutcome profile q (L .slots) F .room .segments
+    segments-left : segmentsOf (request profile q v L F .lent .slots) ≡ lentOutcome profile q (L .slots) F .room .segments
     segments-left =
-        ap (λ (c : Called). segmentsOf (c .lent .slots)) (lent-accepted profile q L F passes accepts)
+        ap (λ (c : Called). segmentsOf (c .lent .slots)) (lent-accepted profile q v L F passes accepts)
         ∙ ap (λ (R : Room). R .segments)
         (room-render profile (checked-known profile (L .slots) F sound) (heightOf (length (L .slots))) (checked profile (L .slots) F sound .0) (checked profile (L .slots) F sound .1) (lentOutcome profile q (L .slots) F .room) (good-lent profile q (L .slots) F sound))
 
-    shares-left : sharesOf profile (request profile q L F .lent .slots) ≡ sharesOf profile (L .slots)
-    shares-left = ap (λ (n : ℕ). shares (profileOf profile) (heightOf n)) (request-keeps profile q L F passes .1)
+    shares-left : sharesOf profile (request profile q v L F .lent .slots) ≡ sharesOf profile (L .slots)
+    shares-left = ap (λ (n : ℕ). shares (profileOf profile) (heightOf n)) (request-keeps profile q v L F passes .1)
 
 -- FIRST PART
 pub lent-inside : LentInside
-lent-inside profile q L F e k v j t h w =
-    rw (segments-left profile q L F e)
-    (inside-kept (sharesOf profile (L .slots)) (lawful-lent profile q L F e) q (roomOf (L .slots) F) (proper-lent profile q L F e) (accepted-lent profile q L F e) k v j t h w)
+lent-inside profile q v L F e k u j t h w =
+    rw (segments-left profile q v L F e)
+    (inside-kept (sharesOf profile (L .slots)) (lawful-lent profile q v L F e) q (roomOf (L .slots) F) (proper-lent profile q v L F e) (accepted-lent profile q v L F e) k u j t h w)
 
 -- SECOND PART. The accepted requests as turns
 abbrev turnsOf : List LentAsk → List ℕ → List Turn
 turnsOf [] slots = []
-turnsOf (Change m q table F ∷ asks) slots =
-    let rest : List Turn = turnsOf asks (request m q (lend slots table) F .lent .slots) in
-    if eqb (request m q (lend slots table) F .answer .number) 0 then record { request = q; cells = usedCells F } ∷ rest else rest
+turnsOf (Change m q v cards table F ∷ asks) slots =
+    let rest : List Turn = turnsOf asks (request m q v (lend slots cards table) F .lent .slots) in
+    if eqb (request m q v (lend slots cards table) F .answer .number) 0 then record { request = q; cells = usedCells F } ∷ rest else rest
 turnsOf (Lookup m y ∷ asks) slots = turnsOf asks slots
-turnsOf (Scan m a out ∷ asks) slots = turnsOf asks slots
+turnsOf (Scan m a out cards ∷ asks) slots = turnsOf asks slots
 
 -- all that was accepted was asked in this profile
 abbrev In : ℕ → List LentAsk → List ℕ → Type 0
 In profile asks slots = All (λ m. m ≡ profile) (lentProfiles asks slots)
 
 -- one more request, and what follows it
-module _ (profile m : ℕ) (q : Request) (table : List ℕ) (F : Forecast) (asks : List LentAsk) (slots : List ℕ) where
+module _ (profile m : ℕ) (q : Request) (v : ℕ) (cards table : List ℕ) (F : Forecast) (asks : List LentAsk) (slots : List ℕ) where
   abbrev left : List ℕ
-  left = request m q (lend slots table) F .lent .slots
+  left = request m q v (lend slots cards table) F .lent .slots
 
   -- by whether it is accepted: the turns, the events, and that all were asked in this profile
   abbrev turnsBy : Bool → List Turn
@@ -111,43 +111,43 @@ module _ (profile m : ℕ) (q : Request) (table : List ℕ) (F : Forecast) (asks
   abbrev Same : ℕ → Type 0
   Same k = events (sharesOf k left) (turnsOf asks left) (segmentsOf left) ≡ lentEvents asks left
 
-  same-events : (b : Bool) → (T b → request m q (lend slots table) F .answer .number ≡ 0) → (T (not b) → request m q (lend slots table) F .answer .number ≢ 0) → InBy b
+  same-events : (b : Bool) → (T b → request m q v (lend slots cards table) F .answer .number ≡ 0) → (T (not b) → request m q v (lend slots cards table) F .answer .number ≢ 0) → InBy b
       → (In profile asks left → Same profile) → events (sharesOf profile slots) (turnsBy b) (segmentsOf slots) ≡ eventsBy b
   same-events true y n i rest =
       by-profile (λ k. Same k → events (sharesOf k slots) (turnsBy true) (segmentsOf slots) ≡ eventsBy true) i
       (λ r.
-      rw (is-true (accepted (sharesOf m slots) q (roomOf slots F)) (accepted-lent m q (lend slots table) F (y tt)))
+      rw (is-true (accepted (sharesOf m slots) q (roomOf slots F)) (accepted-lent m q v (lend slots cards table) F (y tt)))
       (ap (λ (es : List Event). eventOf m q slots F ∷ es)
-      (ap₂ (λ (S : Shares) (ss : Segments). events S (turnsOf asks left) ss) (sym (shares-left m q (lend slots table) F (y tt))) (sym (segments-left m q (lend slots table) F (y tt))) ∙ r)))
+      (ap₂ (λ (S : Shares) (ss : Segments). events S (turnsOf asks left) ss) (sym (shares-left m q v (lend slots cards table) F (y tt))) (sym (segments-left m q v (lend slots cards table) F (y tt))) ∙ r)))
       (rest (λ k j. i k (there j)))
   same-events false y n i rest =
-      ap (λ (xs : List ℕ). events (sharesOf profile xs) (turnsOf asks left) (segmentsOf xs)) (sym (stays-lent m q (lend slots table) F (n tt))) ∙ rest i
+      ap (λ (xs : List ℕ). events (sharesOf profile xs) (turnsOf asks left) (segmentsOf xs)) (sym (stays-lent m q v (lend slots cards table) F (n tt))) ∙ rest i
 
   -- where one is accepted, the slots show a list
   abbrev Shown : ℕ → List ℕ → Type 0
   Shown k xs = Lawful (sharesOf k xs) × Proper (sharesOf k xs) (segmentsOf xs)
 
-  same-shown : (e : Event) (es : List Event) (b : Bool) → (T b → request m q (lend slots table) F .answer .number ≡ 0) → (T (not b) → request m q (lend slots table) F .answer .number ≢ 0) → InBy b
+  same-shown : (e : Event) (es : List Event) (b : Bool) → (T b → request m q v (lend slots cards table) F .answer .number ≡ 0) → (T (not b) → request m q v (lend slots cards table) F .answer .number ≢ 0) → InBy b
       → eventsBy b ≡ e ∷ es → (In profile asks left → lentEvents asks left ≡ e ∷ es → Shown profile left) → Shown profile slots
-  same-shown e es true y n i p rest = by-profile (λ k. Shown k slots) i (lawful-lent m q (lend slots table) F (y tt), proper-lent m q (lend slots table) F (y tt))
-  same-shown e es false y n i p rest = subst (Shown profile) (stays-lent m q (lend slots table) F (n tt)) (rest i p)
+  same-shown e es true y n i p rest = by-profile (λ k. Shown k slots) i (lawful-lent m q v (lend slots cards table) F (y tt), proper-lent m q v (lend slots cards table) F (y tt))
+  same-shown e es false y n i p rest = subst (Shown profile) (stays-lent m q v (lend slots cards table) F (n tt)) (rest i p)
 
 -- ANY ASKS
 events-lent : (profile : ℕ) (asks : List LentAsk) (slots : List ℕ) → In profile asks slots
     → events (sharesOf profile slots) (turnsOf asks slots) (segmentsOf slots) ≡ lentEvents asks slots
 events-lent profile [] slots i = refl
 events-lent profile (Lookup m y ∷ asks) slots i = events-lent profile asks slots i
-events-lent profile (Scan m a out ∷ asks) slots i = events-lent profile asks slots i
-events-lent profile (Change m q table F ∷ asks) slots i =
-    same-events profile m q table F asks slots (eqb (request m q (lend slots table) F .answer .number) 0) (eqb→eq _ _) (neqb→ne _ _) i (events-lent profile asks (request m q (lend slots table) F .lent .slots))
+events-lent profile (Scan m a out cards ∷ asks) slots i = events-lent profile asks slots i
+events-lent profile (Change m q v cards table F ∷ asks) slots i =
+    same-events profile m q v cards table F asks slots (eqb (request m q v (lend slots cards table) F .answer .number) 0) (eqb→eq _ _) (neqb→ne _ _) i (events-lent profile asks (request m q v (lend slots cards table) F .lent .slots))
 
 shown : (profile : ℕ) (asks : List LentAsk) (slots : List ℕ) (e : Event) (es : List Event) → In profile asks slots → lentEvents asks slots ≡ e ∷ es
     → Lawful (sharesOf profile slots) × Proper (sharesOf profile slots) (segmentsOf slots)
 shown profile [] slots e es i p = absurd (omega (arith, ap length p))
 shown profile (Lookup m y ∷ asks) slots e es i p = shown profile asks slots e es i p
-shown profile (Scan m a out ∷ asks) slots e es i p = shown profile asks slots e es i p
-shown profile (Change m q table F ∷ asks) slots e es i p =
-    same-shown profile m q table F asks slots e es (eqb (request m q (lend slots table) F .answer .number) 0) (eqb→eq _ _) (neqb→ne _ _) i p (shown profile asks (request m q (lend slots table) F .lent .slots) e es)
+shown profile (Scan m a out cards ∷ asks) slots e es i p = shown profile asks slots e es i p
+shown profile (Change m q v cards table F ∷ asks) slots e es i p =
+    same-shown profile m q v cards table F asks slots e es (eqb (request m q v (lend slots cards table) F .answer .number) 0) (eqb→eq _ _) (neqb→ne _ _) i p (shown profile asks (request m q v (lend slots cards table) F .lent .slots) e es)
 
 pub lent-again : LentAgain
 lent-again profile slots asks l s e₀ es e i A =

@@ -1,15 +1,14 @@
--- The number of the check, case by case: of the list alone, of list and forecast, and of all that is lent. What lookup and scan come to by it.
-use mathlib.Core.Path.{_≡_, refl}
+-- The number of the check, case by case: of the list and its cards, with the forecast, and with the table. What lookup and scan come to by it.
+use mathlib.Core.Path.{_≡_, refl, sym, ap, _∙_}
 use mathlib.Core.Bool.{Bool, true, false, not}
 use mathlib.Core.Logic.{_≢_}
 use mathlib.Core.List.{List}
 use Prim.Native.Nat.{ℕ, _≤_, _<_}
 use native.Mathlib.Omega.{arith}
-use lib.Dec.{T, ltb, eqb}
+use lib.Dec.{T, ltb, eqb, eqb→eq}
 use borrow.Author.Tests.{eq-eqb, ne-eqb, lt-ltb, le-ltb}
 use lib.ListN.{length}
 use Rattle.lists.specs.Choice.{if_then_else_}
-use Rattle.lists.proofs.Tests.{is-true}
 use Rattle.slots.specs.Segments.{live, heightOf, segmentsOf}
 use Rattle.slots.specs.Orders.{orderOf, isKept}
 use Rattle.forecast.specs.declared.Forecast.{Forecast}
@@ -17,78 +16,90 @@ use Rattle.forecast.specs.Faults.{faultOf, isSound}
 use Rattle.rules.specs.Profiles.{isProfile}
 use Rattle.rules.specs.Shares.{capacity, cellsOf}
 use Rattle.rules.specs.Looking.{notFound, lookedUp, scanned}
-use Rattle.rules.specs.Lent.{Lent}
-use Rattle.rules.specs.Checks.{sharesOf, checkList, checkBoth, checkRead, check}
+use Rattle.rules.specs.Cards.{gapCard}
+use Rattle.rules.specs.Lent.{Lent, cardsOf}
+use Rattle.rules.specs.Checks.{sharesOf, checkCards, thenForecast, checkRead, check}
 use Rattle.rules.specs.Calls.{lookup, scan}
-use Rattle.rules.proofs.Requests.Checked.{both-pass}
+use Rattle.rules.proofs.Requests.Checked.{forecast-stays}
 use Rattle.rules.proofs.Requests.Tabled.{number-stays}
 
--- THE LIST
-module _ (profile : ℕ) (slots : List ℕ) where
-  pub unknown-profile : isProfile profile ≡ false → checkList profile slots ≡ 15
-  unfolding checkList
+-- THE LIST AND ITS CARDS
+module _ (profile : ℕ) (L : Lent) where
+  pub unknown-profile : isProfile profile ≡ false → checkCards profile L ≡ 15
+  unfolding checkCards
   unknown-profile e = rw e
 
-  pub wrong-length : isProfile profile ≡ true → heightOf (length slots) ≡ 0 → checkList profile slots ≡ 1
-  unfolding checkList
-  wrong-length k e = rw (k, eq-eqb (heightOf (length slots)) 0 e)
+  module _ (k : isProfile profile ≡ true) where
+    pub wrong-length : heightOf (length (L .slots)) ≡ 0 → checkCards profile L ≡ 1
+    unfolding checkCards
+    wrong-length e = rw (k, eq-eqb (heightOf (length (L .slots))) 0 e)
 
-  module _ (k : isProfile profile ≡ true) (n : heightOf (length slots) ≢ 0) where
-    pub wrong-order : isKept (orderOf slots) ≡ false → checkList profile slots ≡ 2
-    unfolding checkList
-    wrong-order e = rw (k, ne-eqb (heightOf (length slots)) 0 n, e)
+    module _ (n : heightOf (length (L .slots)) ≢ 0) where
+      pub wrong-cards : length (L .cards) ≢ length (L .slots) → checkCards profile L ≡ 12
+      unfolding checkCards
+      wrong-cards e = rw (k, ne-eqb (heightOf (length (L .slots))) 0 n, ne-eqb (length (L .cards)) (length (L .slots)) e)
 
-    pub too-many : isKept (orderOf slots) ≡ true → capacity (sharesOf profile slots) < length (live slots) → checkList profile slots ≡ 3
-    unfolding checkList
-    too-many e h = rw (k, ne-eqb (heightOf (length slots)) 0 n, e, lt-ltb (capacity (sharesOf profile slots)) (length (live slots)) h)
+      module _ (s : length (L .cards) ≡ length (L .slots)) where
+        pub wrong-order : isKept (orderOf (L .slots)) ≡ false → checkCards profile L ≡ 2
+        unfolding checkCards
+        wrong-order e = rw (k, ne-eqb (heightOf (length (L .slots))) 0 n, eq-eqb (length (L .cards)) (length (L .slots)) s, e)
 
-    pub list-sound : isKept (orderOf slots) ≡ true → length (live slots) ≤ capacity (sharesOf profile slots) → checkList profile slots ≡ 0
-    unfolding checkList
-    list-sound e h = rw (k, ne-eqb (heightOf (length slots)) 0 n, e, le-ltb (capacity (sharesOf profile slots)) (length (live slots)) h)
+        module _ (o : isKept (orderOf (L .slots)) ≡ true) where
+          pub card-in-gap : gapCard (L .slots) (L .cards) ≡ true → checkCards profile L ≡ 13
+          unfolding checkCards
+          card-in-gap e = rw (k, ne-eqb (heightOf (length (L .slots))) 0 n, eq-eqb (length (L .cards)) (length (L .slots)) s, o, e)
 
--- LIST AND FORECAST
-module _ (profile : ℕ) (slots : List ℕ) (F : Forecast) where
-  pub list-first : checkList profile slots ≢ 0 → checkBoth profile slots F ≡ checkList profile slots
-  unfolding checkBoth
-  list-first n = rw (ne-eqb (checkList profile slots) 0 n)
+          module _ (g : gapCard (L .slots) (L .cards) ≡ false) where
+            -- what is left is the number of keys
+            pub by-keys : checkCards profile L ≡ (if ltb (capacity (sharesOf profile (L .slots))) (length (live (L .slots))) then 3 else 0)
+            unfolding checkCards
+            by-keys = rw (k, ne-eqb (heightOf (length (L .slots))) 0 n, eq-eqb (length (L .cards)) (length (L .slots)) s, o, g)
 
-  pub wrong-forecast : checkList profile slots ≡ 0 → isSound (faultOf (cellsOf (sharesOf profile slots)) (segmentsOf slots) F) ≡ false → checkBoth profile slots F ≡ 4
-  unfolding checkBoth
-  wrong-forecast e s = rw (eq-eqb (checkList profile slots) 0 e, s)
+            pub too-many : capacity (sharesOf profile (L .slots)) < length (live (L .slots)) → checkCards profile L ≡ 3
+            too-many h = by-keys ∙ ap (λ (b : Bool). if b then 3 else 0) (lt-ltb (capacity (sharesOf profile (L .slots))) (length (live (L .slots))) h)
 
-  pub both-sound : checkList profile slots ≡ 0 → isSound (faultOf (cellsOf (sharesOf profile slots)) (segmentsOf slots) F) ≡ true → checkBoth profile slots F ≡ 0
-  unfolding checkBoth
-  both-sound e s = rw (eq-eqb (checkList profile slots) 0 e, s)
+            pub cards-sound : length (live (L .slots)) ≤ capacity (sharesOf profile (L .slots)) → checkCards profile L ≡ 0
+            cards-sound h = by-keys ∙ ap (λ (b : Bool). if b then 3 else 0) (le-ltb (capacity (sharesOf profile (L .slots))) (length (live (L .slots))) h)
 
 -- IN ANOTHER PROFILE what passes in one differs by its number of keys alone
-module _ (m n : ℕ) (slots : List ℕ) where
-  pub list-in : T (isProfile n) → checkList m slots ≡ 0 → checkList n slots ≡ (if ltb (capacity (sharesOf n slots)) (length (live slots)) then 3 else 0)
-  unfolding checkList
-  list-in known =
-      go (isProfile m) (isProfile n) known (eqb (heightOf (length slots)) 0) (isKept (orderOf slots)) (ltb (capacity (sharesOf m slots)) (length (live slots)))
-      (ltb (capacity (sharesOf n slots)) (length (live slots)))
+module _ (m n : ℕ) (L : Lent) where
+  pub cards-in : T (isProfile n) → checkCards m L ≡ 0 → checkCards n L ≡ (if ltb (capacity (sharesOf n (L .slots))) (length (live (L .slots))) then 3 else 0)
+  unfolding checkCards
+  cards-in known =
+      go (isProfile m) (isProfile n) known (eqb (heightOf (length (L .slots))) 0) (eqb (length (L .cards)) (length (L .slots))) (isKept (orderOf (L .slots))) (gapCard (L .slots) (L .cards))
+      (ltb (capacity (sharesOf m (L .slots))) (length (live (L .slots)))) (ltb (capacity (sharesOf n (L .slots))) (length (live (L .slots))))
     where
-      go : (j k : Bool) → T k → (a b c d : Bool) → _≡_ {A = ℕ} (if not j then 15 else if a then 1 else if not b then 2 else if c then 3 else 0) 0
-          → _≡_ {A = ℕ} (if not k then 15 else if a then 1 else if not b then 2 else if d then 3 else 0) (if d then 3 else 0)
-      go j false t a b c d e = absurd t
-      go false true t a b c d e = absurd (omega arith)
-      go true true t true b c d e = absurd (omega arith)
-      go true true t false false c d e = absurd (omega arith)
-      go true true t false true c d e = refl
+      go : (j k : Bool) → T k → (a s b g c d : Bool) → _≡_ {A = ℕ} (if not j then 15 else if a then 1 else if not s then 12 else if not b then 2 else if g then 13 else if c then 3 else 0) 0
+          → _≡_ {A = ℕ} (if not k then 15 else if a then 1 else if not s then 12 else if not b then 2 else if g then 13 else if d then 3 else 0) (if d then 3 else 0)
+      go j false t a s b g c d e = absurd t
+      go false true t a s b g c d e = absurd (omega arith)
+      go true true t true s b g c d e = absurd (omega arith)
+      go true true t false false b g c d e = absurd (omega arith)
+      go true true t false true false g c d e = absurd (omega arith)
+      go true true t false true true true c d e = absurd (omega arith)
+      go true true t false true true false c d e = refl
 
-  pub both-in : (F : Forecast) → checkBoth m slots F ≡ 0 → checkList n slots ≡ 0 → checkBoth n slots F ≡ 0
-  both-in F c e = both-sound n slots F e (is-true (isSound (faultOf (cellsOf (sharesOf m slots)) (segmentsOf slots) F)) (both-pass m slots F c .1))
+-- THE FORECAST comes next: a right one leaves the number n by the tests before (else: Requests/Checked)
+module _ (n profile : ℕ) (slots : List ℕ) (F : Forecast) where
+  pub forecast-sound : isSound (faultOf (cellsOf (sharesOf profile slots)) (segmentsOf slots) F) ≡ true → thenForecast n profile slots F ≡ n
+  unfolding thenForecast
+  forecast-sound s = rw s (go (eqb n 0) (eqb→eq n 0))
+    where
+      go : (b : Bool) → (T b → n ≡ 0) → (if not b then n else 0) ≡ n
+      go true e = sym (e tt)
+      go false e = refl
 
--- WITH THE TABLE, which is tested last (that all passes: Requests/Tabled)
+-- WHERE LIST OR CARDS ARE REFUSED, forecast and table change nothing (that all passes: Requests/Tabled)
 module _ (profile : ℕ) (L : Lent) where
-  pub read-first : checkList profile (L .slots) ≢ 0 → checkRead profile L ≡ checkList profile (L .slots)
+  pub read-first : checkCards profile L ≢ 0 → checkRead profile L ≡ checkCards profile L
   unfolding checkRead
-  read-first n = number-stays (checkList profile (L .slots)) L n
+  read-first n = number-stays (checkCards profile L) L n
 
-  module _ (F : Forecast) where
-    pub both-first : checkBoth profile (L .slots) F ≢ 0 → check profile L F ≡ checkBoth profile (L .slots) F
-    unfolding check
-    both-first n = number-stays (checkBoth profile (L .slots) F) L n
+  pub check-first : (F : Forecast) → checkCards profile L ≢ 0 → check profile L F ≡ checkCards profile L
+  unfolding check
+  check-first F n =
+      let e : thenForecast (checkCards profile L) profile (L .slots) F ≡ checkCards profile L = forecast-stays (checkCards profile L) profile (L .slots) F n in
+      number-stays (thenForecast (checkCards profile L) profile (L .slots) F) L (λ z. n (sym e ∙ z)) ∙ e
 
 -- LOOKUP
 module _ (profile : ℕ) (L : Lent) (y : ℕ) where
@@ -96,16 +107,16 @@ module _ (profile : ℕ) (L : Lent) (y : ℕ) where
   unfolding lookup
   lookup-refused n = rw (ne-eqb (checkRead profile L) 0 n)
 
-  pub lookup-passed : checkRead profile L ≡ 0 → lookup profile L y ≡ lookedUp y (segmentsOf (L .slots))
+  pub lookup-passed : checkRead profile L ≡ 0 → lookup profile L y ≡ lookedUp y (cardsOf L) (segmentsOf (L .slots))
   unfolding lookup
   lookup-passed e = rw (eq-eqb (checkRead profile L) 0 e)
 
 -- SCAN
-module _ (profile : ℕ) (L : Lent) (a : ℕ) (out : List ℕ) where
-  pub scan-refused : checkRead profile L ≢ 0 → scan profile L a out ≡ record { number = checkRead profile L; written = 0; more = false; output = out }
+module _ (profile : ℕ) (L : Lent) (a : ℕ) (out cards : List ℕ) where
+  pub scan-refused : checkRead profile L ≢ 0 → scan profile L a out cards ≡ record { number = checkRead profile L; written = 0; more = false; output = out; cards = cards }
   unfolding scan
   scan-refused n = rw (ne-eqb (checkRead profile L) 0 n)
 
-  pub scan-passed : checkRead profile L ≡ 0 → scan profile L a out ≡ scanned a (segmentsOf (L .slots)) out
+  pub scan-passed : checkRead profile L ≡ 0 → scan profile L a out cards ≡ scanned a (cardsOf L) (segmentsOf (L .slots)) out cards
   unfolding scan
   scan-passed e = rw (eq-eqb (checkRead profile L) 0 e)

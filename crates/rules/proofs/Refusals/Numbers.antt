@@ -20,19 +20,22 @@ use Rattle.rules.specs.Profiles.{isProfile}
 use Rattle.rules.specs.Shares.{capacity, cellsOf}
 use Rattle.rules.specs.Placing.{Outcome, insertKey, deleteKey, outcome}
 use Rattle.rules.specs.Looking.{Found, Scanned, scanned}
-use Rattle.rules.specs.Lent.{Lent, rightTable}
-use Rattle.rules.specs.Checks.{sharesOf, checkList, checkBoth, thenTable, checkRead, check}
+use Rattle.rules.specs.Cards.{gapCard, carded}
+use Rattle.rules.specs.Lent.{Lent, cardsOf, rightTable}
+use Rattle.rules.specs.Checks.{sharesOf, checkCards, thenForecast, thenTable, checkRead, check}
 use Rattle.rules.specs.Calls.{roomOf, Made, make, lookup, scan, Called, unchanged, changed, request}
-use Rattle.rules.specs.Rows.{Row, Tells, row1, row15, row2, row3, row4, row5, row6, row7, row8, row14, row14Size, listRows, readRows, bothRows}
+use Rattle.rules.specs.Rows.{Row, Tells, row1, row15, row2, row3, row4, row5, row6, row7, row8, row12, row13, row14, row14Size, listRows, readRows, bothRows}
 use Rattle.forecast.specs.Tidy.{Roomy}
 use Rattle.rules.specs.Demand1.{MakeTells, CheckTells, CheckPasses, LookupTells, ScanTells, InsertTells, DeleteTells}
 use Rattle.rules.proofs.Requests.Accepted.{settled-number}
 use Rattle.rules.proofs.Sets.SetLookup.{looked-number}
-use Rattle.rules.proofs.Requests.Checked.{Passed, passed, list-passes}
+use Rattle.rules.proofs.Requests.Checked.{Passed, passed, forecast-passed, list-passes}
+use Rattle.rules.proofs.Requests.CardsChecked.{cards-tested}
 use Rattle.rules.proofs.Requests.Tabled.{room-passes}
 use Rattle.rules.proofs.Refusals.RowsInOrder.{Numbered, tells-if, tells-more, tells-none}
 use Rattle.rules.proofs.Refusals.Rows.{decides-1, decides-15, decides-2, decides-3, decides-5, decides-6, decides-7, decides-8}
 use Rattle.rules.proofs.Refusals.Row4.{decides-4}
+use Rattle.rules.proofs.Refusals.Row13.{decides-12, decides-13}
 use Rattle.rules.proofs.Refusals.Row14.{decides-14, decides-14-size}
 
 abbrev itself : ℕ → ℕ
@@ -42,21 +45,30 @@ itself n = n
 pub make-tells : MakeTells
 unfolding make
 make-tells profile L =
-    tells-if (λ (m : Made). m .number) (not (isProfile profile)) (row15 profile) (row1 (L .slots) ∷ row14Size L ∷ []) _ _ refl (decides-15 profile) λ t.
-    tells-if (λ (m : Made). m .number) (eqb (heightOf (length (L .slots))) 0) (row1 (L .slots)) (row14Size L ∷ []) _ _ refl (decides-1 (L .slots)) λ u.
+    tells-if (λ (m : Made). m .number) (not (isProfile profile)) (row15 profile) (row1 (L .slots) ∷ row12 L ∷ row14Size L ∷ []) _ _ refl (decides-15 profile) λ t.
+    tells-if (λ (m : Made). m .number) (eqb (heightOf (length (L .slots))) 0) (row1 (L .slots)) (row12 L ∷ row14Size L ∷ []) _ _ refl (decides-1 (L .slots)) λ u.
+    tells-if (λ (m : Made). m .number) (not (eqb (length (L .cards)) (length (L .slots)))) (row12 L) (row14Size L ∷ []) _ _ refl (decides-12 L) λ s.
     tells-if (λ (m : Made). m .number) (not (eqb (length (L .table)) (tableSize (heightOf (length (L .slots)))))) (row14Size L) [] _ _ refl (decides-14-size L u) (λ v. refl)
 
--- CHECK, of the list alone
-list-numbered : (profile : ℕ) (slots : List ℕ) → Numbered (listRows profile slots)
-list-numbered profile slots = omega arith
+-- CHECK, of the list and its cards
+list-numbered : (profile : ℕ) (L : Lent) → Numbered (listRows profile L)
+list-numbered profile L = omega arith
 
-list-tells : (profile : ℕ) (slots : List ℕ) → Tells (listRows profile slots) (checkList profile slots)
-unfolding checkList
-list-tells profile slots =
-    tells-if itself (not (isProfile profile)) (row15 profile) (row1 slots ∷ row2 slots ∷ row3 profile slots ∷ []) 15 _ refl (decides-15 profile) λ s.
-    tells-if itself (eqb (heightOf (length slots)) 0) (row1 slots) (row2 slots ∷ row3 profile slots ∷ []) 1 _ refl (decides-1 slots) λ t.
-    tells-if itself (not (isKept (orderOf slots))) (row2 slots) (row3 profile slots ∷ []) 2 _ refl (decides-2 slots) λ u.
-    tells-if itself (ltb (capacity (sharesOf profile slots)) (length (live slots))) (row3 profile slots) [] 3 0 refl (decides-3 profile slots t) λ v. refl
+list-tells : (profile : ℕ) (L : Lent) → Tells (listRows profile L) (checkCards profile L)
+unfolding checkCards
+list-tells profile L =
+    let R13 : List Row = row13 L ∷ row3 profile (L .slots) ∷ [] in
+    let R12 : List Row = row12 L ∷ row2 (L .slots) ∷ R13 in
+    tells-if itself (not (isProfile profile)) (row15 profile) (row1 (L .slots) ∷ R12) 15 _ refl (decides-15 profile) λ s.
+    tells-if itself (eqb (heightOf (length (L .slots))) 0) (row1 (L .slots)) R12 1 _ refl (decides-1 (L .slots)) λ t.
+    tells-if itself (not (eqb (length (L .cards)) (length (L .slots)))) (row12 L) (row2 (L .slots) ∷ R13) 12 _ refl (decides-12 L) λ c.
+    tells-if itself (not (isKept (orderOf (L .slots)))) (row2 (L .slots)) R13 2 _ refl (decides-2 (L .slots)) λ u.
+    tells-if itself (gapCard (L .slots) (L .cards)) (row13 L) (row3 profile (L .slots) ∷ []) 13 _ refl (decides-13 L) λ g.
+    tells-if itself (ltb (capacity (sharesOf profile (L .slots))) (length (live (L .slots)))) (row3 profile (L .slots)) [] 3 0 refl (decides-3 profile (L .slots) t) λ v. refl
+
+-- where that passes, its slots have passed
+cards-before : (profile : ℕ) (L : Lent) → checkCards profile L ≡ 0 → Passed profile (L .slots)
+cards-before profile L e = passed profile (L .slots) (cards-tested profile L e .0)
 
 -- the table after it
 table-tells : (L : Lent) → length (L .slots) ≡ 64 * 2 ^ heightOf (length (L .slots)) → Tells (row14 L ∷ []) (if not (same (L .table) (rightTable (L .slots))) then 14 else 0)
@@ -68,15 +80,17 @@ read-numbered profile L = omega arith
 read-tells : (profile : ℕ) (L : Lent) → Tells (readRows profile L) (checkRead profile L)
 unfolding checkRead thenTable
 read-tells profile L =
-    tells-more itself (listRows profile (L .slots)) (row14 L ∷ []) (checkList profile (L .slots)) _ _ (list-numbered profile (L .slots)) (list-tells profile (L .slots)) refl λ e.
-    table-tells L (passed profile (L .slots) e .number)
+    tells-more itself (listRows profile L) (row14 L ∷ []) (checkCards profile L) _ _ (list-numbered profile L) (list-tells profile L) refl λ e.
+    table-tells L (cards-before profile L e .number)
 
 -- and the forecast between
-forecast-tells : (profile : ℕ) (slots : List ℕ) (F : Forecast) → Roomy F → Tells (listRows profile slots ++ (row4 slots F ∷ [])) (checkBoth profile slots F)
-unfolding checkBoth
-forecast-tells profile slots F r =
-    tells-more itself (listRows profile slots) (row4 slots F ∷ []) (checkList profile slots) _ _ (list-numbered profile slots) (list-tells profile slots) refl λ e.
-    tells-if itself (not (isSound (faultOf (cellsOf (sharesOf profile slots)) (segmentsOf slots) F))) (row4 slots F) [] 4 0 refl (decides-4 profile slots (passed profile slots e) F r) λ t. refl
+forecast-tells : (profile : ℕ) (L : Lent) (F : Forecast) → Roomy F
+    → Tells (listRows profile L ++ (row4 (L .slots) F ∷ [])) (thenForecast (checkCards profile L) profile (L .slots) F)
+unfolding thenForecast
+forecast-tells profile L F r =
+    tells-more itself (listRows profile L) (row4 (L .slots) F ∷ []) (checkCards profile L) _ _ (list-numbered profile L) (list-tells profile L) refl λ e.
+    tells-if itself (not (isSound (faultOf (cellsOf (sharesOf profile (L .slots))) (segmentsOf (L .slots)) F))) (row4 (L .slots) F) [] 4 0 refl
+    (decides-4 profile (L .slots) (cards-before profile L e) F r) λ t. refl
 
 both-numbered : (profile : ℕ) (L : Lent) (F : Forecast) → Numbered (bothRows profile L F)
 both-numbered profile L F = omega arith
@@ -84,8 +98,8 @@ both-numbered profile L F = omega arith
 pub check-tells : CheckTells
 unfolding check thenTable
 check-tells profile L F r =
-    tells-more itself (listRows profile (L .slots) ++ (row4 (L .slots) F ∷ [])) (row14 L ∷ []) (checkBoth profile (L .slots) F) _ _ (omega arith) (forecast-tells profile (L .slots) F r) refl λ e.
-    table-tells L (passed profile (L .slots) (list-passes profile (L .slots) F e) .number)
+    tells-more itself (listRows profile L ++ (row4 (L .slots) F ∷ [])) (row14 L ∷ []) (thenForecast (checkCards profile L) profile (L .slots) F) _ _ (omega arith) (forecast-tells profile L F r) refl λ e.
+    table-tells L (cards-before profile L (forecast-passed (checkCards profile L) profile (L .slots) F e .0) .number)
 
 pub check-passes : CheckPasses
 check-passes profile L F r = tells-none (bothRows profile L F) (check profile L F) (both-numbered profile L F) (check-tells profile L F r)
@@ -95,12 +109,12 @@ pub lookup-tells : LookupTells
 unfolding lookup
 lookup-tells profile L y =
     tells-more (λ (f : Found). f .number) (readRows profile L) (row5 y ∷ []) (checkRead profile L) _ _ (read-numbered profile L) (read-tells profile L) refl λ e.
-    rw (looked-number y (segmentsOf (L .slots))) (tells-if itself (eqb y 0) (row5 y) [] 5 0 refl (decides-5 y) λ t. refl)
+    rw (looked-number y (cardsOf L) (segmentsOf (L .slots))) (tells-if itself (eqb y 0) (row5 y) [] 5 0 refl (decides-5 y) λ t. refl)
 
 pub scan-tells : ScanTells
 unfolding scan scanned
-scan-tells profile L a out =
-    tells-more (λ (s : Scanned). s .number) (readRows profile L) [] (checkRead profile L) _ (scanned a (segmentsOf (L .slots)) out) (read-numbered profile L) (read-tells profile L) refl λ e. refl
+scan-tells profile L a out cards =
+    tells-more (λ (s : Scanned). s .number) (readRows profile L) [] (checkRead profile L) _ (scanned a (cardsOf L) (segmentsOf (L .slots)) out cards) (read-numbered profile L) (read-tells profile L) refl λ e. refl
 
 -- INSERT AND DELETE
 abbrev number : Outcome → ℕ
@@ -123,11 +137,11 @@ module _ (profile : ℕ) (slots : List ℕ) (F : Forecast) (K : Passed profile s
       settled-number (sharesOf profile slots) _ _ _ _ _ _
 
 -- a request tells what its check tells, then what its outcome tells
-request-tells : (profile : ℕ) (q : Request) (rest : List Row) (L : Lent) (F : Forecast) → Roomy F
+request-tells : (profile : ℕ) (q : Request) (v : ℕ) (rest : List Row) (L : Lent) (F : Forecast) → Roomy F
     → (check profile L F ≡ 0 → Tells rest (number (outcome (sharesOf profile (L .slots)) q (roomOf (L .slots) F))))
-    → Tells (bothRows profile L F ++ rest) (request profile q L F .answer .number)
+    → Tells (bothRows profile L F ++ rest) (request profile q v L F .answer .number)
 unfolding request
-request-tells profile q rest L F r t =
+request-tells profile q v rest L F r t =
     tells-more told (bothRows profile L F) rest (check profile L F) (unchanged L F (check profile L F)) _ (both-numbered profile L F) (check-tells profile L F r) refl λ e.
     rw (either (eqb (number o) 0)) (t e)
   where
@@ -137,7 +151,7 @@ request-tells profile q rest L F r t =
     o : Outcome
     o = outcome (sharesOf profile (L .slots)) q (roomOf (L .slots) F)
 
-    either : (b : Bool) → told (if not b then unchanged L F (number o) else changed o) ≡ number o
+    either : (b : Bool) → told (if not b then unchanged L F (number o) else changed (carded q v (cardsOf L)) o) ≡ number o
     either true = refl
     either false = refl
 
@@ -146,9 +160,9 @@ before : (profile : ℕ) (L : Lent) (F : Forecast) → check profile L F ≡ 0 �
 before profile L F e = passed profile (L .slots) (list-passes profile (L .slots) F (room-passes profile L F e))
 
 pub insert-tells : InsertTells
-insert-tells profile L F y r =
-    request-tells profile (Insert y) (row5 y ∷ row6 (L .slots) y ∷ row8 profile (L .slots) ∷ []) L F r (λ e. insert-rows profile (L .slots) F (before profile L F e) y)
+insert-tells profile L F y v r =
+    request-tells profile (Insert y) v (row5 y ∷ row6 (L .slots) y ∷ row8 profile (L .slots) ∷ []) L F r (λ e. insert-rows profile (L .slots) F (before profile L F e) y)
 
 pub delete-tells : DeleteTells
 delete-tells profile L F y r =
-    request-tells profile (Delete y) (row5 y ∷ row7 (L .slots) y ∷ []) L F r (λ e. delete-rows profile (L .slots) F (before profile L F e) y)
+    request-tells profile (Delete y) 0 (row5 y ∷ row7 (L .slots) y ∷ []) L F r (λ e. delete-rows profile (L .slots) F (before profile L F e) y)

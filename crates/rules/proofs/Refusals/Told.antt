@@ -6,7 +6,7 @@ use borrow.Author.Tests.{ne-eqb}
 use lib.Dec.{eqb}
 use Rattle.lists.specs.Choice.{if_then_else_}
 use Rattle.rules.specs.declared.Refusal.{Refusal}
-use Rattle.rules.specs.declared.Refusal.the-variants.{UnknownProfile, WrongLength, WrongOrder, TooManyKeys, WrongForecast, WrongTable, KeyZero, KeyPresent, KeyAbsent, Full, BadRecord, AllowancePassed}
+use Rattle.rules.specs.declared.Refusal.the-variants.{UnknownProfile, WrongLength, WrongCards, WrongOrder, CardInGap, TooManyKeys, WrongForecast, WrongTable, KeyZero, KeyPresent, KeyAbsent, Full, BadRecord, AllowancePassed}
 use Rattle.rules.specs.declared.Verdict.{Verdict}
 use Rattle.rules.specs.declared.Verdict.the-variants.{Refused, Accepted}
 use Rattle.rules.specs.Refusals.{refusalNumber, verdictNumber}
@@ -16,7 +16,9 @@ abbrev named : ℕ → Refusal
 named n =
     if eqb n 15 then UnknownProfile
     else if eqb n 1 then WrongLength
+    else if eqb n 12 then WrongCards
     else if eqb n 2 then WrongOrder
+    else if eqb n 13 then CardInGap
     else if eqb n 3 then TooManyKeys
     else if eqb n 4 then WrongForecast
     else if eqb n 14 then WrongTable
@@ -31,7 +33,9 @@ named n =
 back : (x : Refusal) → (0 < refusalNumber x) × (named (refusalNumber x) ≡ x)
 back UnknownProfile = (omega arith, refl)
 back WrongLength = (omega arith, refl)
+back WrongCards = (omega arith, refl)
 back WrongOrder = (omega arith, refl)
+back CardInGap = (omega arith, refl)
 back TooManyKeys = (omega arith, refl)
 back WrongForecast = (omega arith, refl)
 back WrongTable = (omega arith, refl)

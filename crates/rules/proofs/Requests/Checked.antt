@@ -6,7 +6,7 @@ use mathlib.Core.List.{List}
 use Prim.Native.Nat.{ℕ, _*_, _^_, _≤_}
 use native.Mathlib.Omega.{arith}
 use lib.Dec.{T, ltb, eqb, eqb→eq, nltb→le}
-use borrow.Author.Tests.{le-ltb, ne-eqb}
+use borrow.Author.Tests.{le-ltb, eq-eqb, ne-eqb}
 use lib.ListN.{length}
 use Rattle.lists.specs.Choice.{if_then_else_}
 use Rattle.lists.proofs.Tests.{neqb→ne, is-true}
@@ -25,7 +25,7 @@ use Rattle.rules.specs.Profiles.{isProfile, profileOf}
 use Rattle.rules.specs.Shares.{shares, capacity, cellsOf}
 use Rattle.rules.specs.Placing.{Room}
 use Rattle.rules.specs.Lent.{rightTable}
-use Rattle.rules.specs.Checks.{sharesOf, checkList, checkBoth}
+use Rattle.rules.specs.Checks.{sharesOf, thenForecast, checkList, checkBoth}
 use Rattle.rules.specs.Calls.{roomOf}
 use Rattle.forecast.specs.Tidy.{Roomy}
 use Rattle.rules.specs.Readings.{Proper}
@@ -59,16 +59,33 @@ passed profile slots e =
           | inr z ↦ record { known = rw k tt; from = z .0; to = z .1; number = z .2; ordered = q tt .0; solid = q tt .1; room = r tt }
         ]
 
+-- then the forecast: n is the number by the tests before
+module _ (n profile : ℕ) (slots : List ℕ) (F : Forecast) where
+  pub forecast-stays : n ≢ 0 → thenForecast n profile slots F ≡ n
+  unfolding thenForecast
+  forecast-stays e = rw (ne-eqb n 0 e)
+
+  pub forecast-wrong : n ≡ 0 → isSound (faultOf (cellsOf (sharesOf profile slots)) (segmentsOf slots) F) ≡ false → thenForecast n profile slots F ≡ 4
+  unfolding thenForecast
+  forecast-wrong e w = rw (eq-eqb n 0 e, w)
+
+  pub forecast-passes : n ≡ 0 → isSound (faultOf (cellsOf (sharesOf profile slots)) (segmentsOf slots) F) ≡ true → thenForecast n profile slots F ≡ 0
+  unfolding thenForecast
+  forecast-passes e r = rw (eq-eqb n 0 e, r)
+
+  pub forecast-passed : thenForecast n profile slots F ≡ 0 → (n ≡ 0) × T (isSound (faultOf (cellsOf (sharesOf profile slots)) (segmentsOf slots) F))
+  unfolding thenForecast
+  forecast-passed e = go (eqb n 0) (eqb→eq _ _) (neqb→ne _ _) (isSound (faultOf (cellsOf (sharesOf profile slots)) (segmentsOf slots) F)) e
+    where
+      go : (a : Bool) → (T a → n ≡ 0) → (T (not a) → n ≢ 0) → (b : Bool) → _≡_ {A = ℕ} (if not a then n else if not b then 4 else 0) 0 → (n ≡ 0) × T b
+      go true p q true e = (p tt, tt)
+      go true p q false e = absurd (omega arith)
+      go false p q b e = absurd (q tt e)
+
 -- list and forecast
 pub both-pass : (profile : ℕ) (slots : List ℕ) (F : Forecast) → checkBoth profile slots F ≡ 0 → (checkList profile slots ≡ 0) × T (isSound (faultOf (cellsOf (sharesOf profile slots)) (segmentsOf slots) F))
 unfolding checkBoth
-both-pass profile slots F e = go (eqb (checkList profile slots) 0) (eqb→eq _ _) (neqb→ne _ _) (isSound (faultOf (cellsOf (sharesOf profile slots)) (segmentsOf slots) F)) e
-  where
-    go : (a : Bool) → (T a → checkList profile slots ≡ 0) → (T (not a) → checkList profile slots ≢ 0) → (b : Bool) → _≡_ {A = ℕ} (if not a then checkList profile slots else if not b then 4 else 0) 0
-        → (checkList profile slots ≡ 0) × T b
-    go true p q true e = (p tt, tt)
-    go true p q false e = absurd (omega arith)
-    go false p q b e = absurd (q tt e)
+both-pass profile slots F e = forecast-passed (checkList profile slots) profile slots F e
 
 pub list-passes : (profile : ℕ) (slots : List ℕ) (F : Forecast) → checkBoth profile slots F ≡ 0 → checkList profile slots ≡ 0
 list-passes profile slots F e = both-pass profile slots F e .0
@@ -146,10 +163,7 @@ module _ (profile : ℕ) (known : T (isProfile profile)) (h : ℕ) (from : 1 ≤
   pub check-render : checkBoth profile (render 0 (R .segments)) (forecastOf (R .cells)) ≡ 0
   unfolding checkBoth
   check-render =
-      rw (
-        list-render,
-        height-render,
-        segments-render (R .segments) (G .sizes) (G .proper .listed .live),
-        is-true (isSound (faultOf (cellsOf (shares (profileOf profile) h)) (R .segments) (forecastOf (R .cells))))
-            (ruled-sound (cellsOf (shares (profileOf profile) h)) (R .segments) (R .cells) (omega arith) (G .ruled) (G .placed)),
-      ) refl
+      forecast-passes (checkList profile (render 0 (R .segments))) profile (render 0 (R .segments)) (forecastOf (R .cells)) list-render
+      (rw (height-render, segments-render (R .segments) (G .sizes) (G .proper .listed .live))
+      (is-true (isSound (faultOf (cellsOf (shares (profileOf profile) h)) (R .segments) (forecastOf (R .cells))))
+      (ruled-sound (cellsOf (shares (profileOf profile) h)) (R .segments) (R .cells) (omega arith) (G .ruled) (G .placed))))

@@ -1,5 +1,5 @@
--- A list made empty: it passes the check with its table, and has no key.
-use mathlib.Core.Path.{_≡_, refl, sym, ap, _∙_}
+-- A list made empty: it passes the check with its cards and its table, and has no key.
+use mathlib.Core.Path.{_≡_, sym, ap, _∙_}
 use mathlib.Core.Logic.{inl, inr}
 use mathlib.Core.List.{List, [], List·Memᴰ·not-nil as nowhere, List·Memᴰ·cases-cons as mem-cases}
 use Prim.Native.Nat.{ℕ, zero, suc, _*_, _^_, _≤_}
@@ -18,13 +18,15 @@ use Rattle.forecast.specs.Cells.{forecastOf}
 use Rattle.rules.specs.declared.Profile.{Profile}
 use Rattle.rules.specs.Profiles.{isProfile, profileOf}
 use Rattle.rules.specs.Shares.{shares}
-use Rattle.rules.specs.Lent.{Lent, lend, rightTable, tabled}
+use Rattle.rules.specs.Cards.{cardsBeside}
+use Rattle.rules.specs.Lent.{Lent, lend, rightTable, laid}
 use Rattle.rules.specs.Checks.{check}
 use Rattle.rules.specs.Calls.{Made, make}
 use Rattle.rules.specs.Demand2.{emptyRoom}
+use Rattle.rules.proofs.Cards.Beside.{beside-zeros}
 use Rattle.rules.proofs.Requests.StaysGood.{Good}
 use Rattle.rules.proofs.Requests.Checked.{table-render, check-render}
-use Rattle.rules.proofs.Requests.Tabled.{check-passes}
+use Rattle.rules.proofs.Requests.Tabled.{laid-passes}
 
 no-size : (n m : ℕ) → All (λ (x : List ℕ). length x ≤ m) (replicate n [])
 no-size zero m x i = absurd (nowhere i)
@@ -39,9 +41,9 @@ good-empty p h = record {
   placed = λ c m. absurd (nowhere m);
 }
 
--- a list with no key, and its table
+-- a list with no key, no card and its table
 abbrev pub emptyLent : ℕ → Lent
-emptyLent h = tabled (render 0 (replicate (2 ^ h) []))
+emptyLent h = laid (λ k. 0) (render 0 (replicate (2 ^ h) []))
 
 module _ (profile : ℕ) (known : T (isProfile profile)) (h : ℕ) (from : 1 ≤ h) (to : h ≤ 6) where
   abbrev G : Good (shares (profileOf profile) h) (emptyRoom h)
@@ -50,7 +52,7 @@ module _ (profile : ℕ) (known : T (isProfile profile)) (h : ℕ) (from : 1 ≤
   zeros : rightTable (render 0 (replicate (2 ^ h) [])) ≡ replicate (tableSize h) 0
   zeros = table-render profile known h from to (emptyRoom h) G ∙ table-empty h
 
-  module _ (L : Lent) (e : length (L .slots) ≡ 64 * 2 ^ h) (t : length (L .table) ≡ tableSize h) where
+  module _ (L : Lent) (e : length (L .slots) ≡ 64 * 2 ^ h) (b : length (L .cards) ≡ length (L .slots)) (t : length (L .table) ≡ tableSize h) where
     height : heightOf (length (L .slots)) ≡ h
     height = ap heightOf e ∙ height-is h from to
 
@@ -60,11 +62,15 @@ module _ (profile : ℕ) (known : T (isProfile profile)) (h : ℕ) (from : 1 ≤
         rw (
           is-true (isProfile profile) known,
           ne-eqb (heightOf (length (L .slots))) 0 (λ z. absurd (omega (arith, height))),
+          eq-eqb (length (L .cards)) (length (L .slots)) b,
           eq-eqb (length (L .table)) (tableSize (heightOf (length (L .slots)))) (t ∙ ap tableSize (sym height)),
-        ) (λ i. record { lent = lend (rows i) (entries i); forecast = forecastOf []; number = 0 })
+        ) (λ i. record { lent = lend (rows i) (cards i) (entries i); forecast = forecastOf []; number = 0 })
       where
         rows : replicate {A = ℕ} (length (L .slots)) 0 ≡ render 0 (replicate (2 ^ h) [])
         rows = ap (λ (n : ℕ). replicate {A = ℕ} n 0) e ∙ sym (render-empty {A = ℕ} 0 (2 ^ h))
+
+        cards : replicate {A = ℕ} (length (L .cards)) 0 ≡ cardsBeside (λ k. 0) (render 0 (replicate (2 ^ h) []))
+        cards = ap (λ (n : ℕ). replicate {A = ℕ} n 0) b ∙ sym (beside-zeros (λ k. 0) (length (L .slots))) ∙ ap (cardsBeside (λ k. 0)) rows
 
         entries : replicate {A = ℕ} (length (L .table)) 0 ≡ rightTable (render 0 (replicate (2 ^ h) []))
         entries = ap (λ (n : ℕ). replicate {A = ℕ} n 0) t ∙ sym zeros
@@ -73,7 +79,7 @@ module _ (profile : ℕ) (known : T (isProfile profile)) (h : ℕ) (from : 1 ≤
     made-length = ap (λ (m : Made). length (m .lent .slots)) made-is ∙ ap length (render-empty {A = ℕ} 0 (2 ^ h)) ∙ length-replicate (64 * 2 ^ h) 0
 
     pub made-passes : check profile (make profile L .lent) (make profile L .forecast) ≡ 0
-    made-passes = rw made-is (check-passes profile (emptyLent h) (forecastOf []) (check-render profile known h from to (emptyRoom h) G) refl)
+    made-passes = rw made-is (laid-passes profile (λ k. 0) (render 0 (replicate (2 ^ h) [])) (forecastOf []) (check-render profile known h from to (emptyRoom h) G))
 
     pub made-keys : live (make profile L .lent .slots) ≡ []
     made-keys = rw made-is (live-render (replicate (2 ^ h) []) (G .proper .listed .live) ∙ no-keys (2 ^ h))

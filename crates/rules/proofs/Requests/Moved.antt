@@ -28,7 +28,7 @@ use Rattle.rules.specs.Readings.{Proper}
 use Rattle.rules.specs.History.{Event, inserts, deletes, eventAt, accepted}
 use Rattle.rules.proofs.Sharing.Climb.{chosen-first}
 use Rattle.rules.proofs.Sweeping.Settled.{AtMost, Asked, keys-settled, length-settled}
-use Rattle.rules.proofs.Requests.Accepted.{Inserts, insert-accepted, Deletes, delete-accepted, bad-refused}
+use Rattle.rules.proofs.Requests.Accepted.{Inserts, insert-accepted, Deletes, delete-accepted, bad-refused, refused-is}
 
 -- KEYS: those with y put in, or taken out
 pub keys-insert : (S : Shares) (y : ℕ) (R : Room) → Listed (R .segments) → 0 < length (R .segments) → T (not (member y (keys (R .segments))))
@@ -188,3 +188,11 @@ moved S (Delete y) R K t = rw (a .is) (m, record { size = moved-number S R _ _ m
     m : Moved S R (eventAt S (Delete y) R) (deleteKey S y R)
     m = moved-delete S y R K p
 moved S Bad R K t = absurd (bad-refused S R t)
+
+-- any request leaves what is proper so
+pub proper-next : (S : Shares) (q : Request) (R : Room) → Proper S (R .segments) → Proper S (outcome S q R .room .segments)
+proper-next S q R K = go (accepted S q R) refl
+  where
+    go : (b : Bool) → accepted S q R ≡ b → Proper S (outcome S q R .room .segments)
+    go true e = moved S q R K (rw e tt) .1
+    go false e = rw (ap (λ (o : Outcome). o .room) (refused-is S q R (neqb→ne (outcome S q R .answer .number) 0 (rw e tt)))) K

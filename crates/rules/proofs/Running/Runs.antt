@@ -1,7 +1,7 @@
 -- A run over bytes: what it counts, where it stops, and that it leaves what the run over the bytes before its stop leaves.
 use mathlib.Core.Path.{_≡_, refl, ap, _∙_}
 use mathlib.Core.List.{List}
-use Prim.Native.Nat.{ℕ, _*_, _≤_, _<_}
+use Prim.Native.Nat.{ℕ, _≤_, _<_}
 use native.Mathlib.Nat.{zero-add}
 use native.Mathlib.Decide.{decLt}
 use native.Mathlib.Omega.{arith}
@@ -9,17 +9,16 @@ use lib.ListN.{length, take}
 use lib.Seq.{length-take-le}
 use borrow.Author.Tests.{ne-eqb}
 use Rattle.forecast.specs.declared.Forecast.{Forecast}
-use Rattle.rules.specs.declared.Request.{Request}
 use Rattle.rules.specs.declared.Totals.{Totals}
 use Rattle.rules.specs.Shares.{Shares}
 use Rattle.rules.specs.Placing.{Room}
-use Rattle.rules.specs.Lent.{Lent}
+use Rattle.rules.specs.Lent.{Lent, cardsOf}
 use Rattle.rules.specs.Checks.{sharesOf, check}
 use Rattle.rules.specs.declared.Tally.{Tally}
-use Rattle.rules.specs.Runs.{recordsOf, nothing, Ran, stopped, work, ran}
+use Rattle.rules.specs.Runs.{Record, recordsOf, nothing, Ran, stopped, work, ran}
 use Rattle.rules.specs.Calls.{roomOf, worked, run}
 use Rattle.rules.specs.Demand1.{RunRefused, RunStops}
-use Rattle.rules.proofs.Running.Records.{byte-of-record, record-of-byte, bytes-of-good, records-take}
+use Rattle.rules.proofs.Running.Records.{sizes, byte-of-record, record-of-byte, bytes-of-good, records-take}
 use Rattle.rules.proofs.Running.RequestsWorked.{Works, works, tallies-worked, tallies-place}
 
 -- refused by its check
@@ -29,14 +28,14 @@ run-refused profile L F bytes allowance T n = rw (ne-eqb (check profile L F) 0 n
 
 -- or it works the records
 pub run-checked : (profile : ℕ) (L : Lent) (F : Forecast) (bytes : List ℕ) (allowance : ℕ) (T : Totals) → check profile L F ≡ 0
-    → run profile L F bytes allowance T ≡ worked T (ran (sharesOf profile (L .slots)) allowance bytes (roomOf (L .slots) F))
+    → run profile L F bytes allowance T ≡ worked T (ran (sharesOf profile (L .slots)) allowance bytes (roomOf (L .slots) F) (cardsOf L))
 unfolding run
 run-checked profile L F bytes allowance T c = rw c
 
-module _ (S : Shares) (allowance : ℕ) (bytes : List ℕ) (R : Room) where
-  pub ran-works : Works S allowance (recordsOf bytes) R nothing (ran S allowance bytes R)
+module _ (S : Shares) (allowance : ℕ) (bytes : List ℕ) (R : Room) (c : ℕ → ℕ) where
+  pub ran-works : Works S allowance (recordsOf bytes) R c nothing (ran S allowance bytes R c)
   unfolding ran
-  ran-works = works S allowance (recordsOf bytes) R nothing (omega arith)
+  ran-works = works S allowance (recordsOf bytes) R c nothing (omega arith)
 
   -- the number of records worked
   abbrev pub done : ℕ
@@ -45,39 +44,43 @@ module _ (S : Shares) (allowance : ℕ) (bytes : List ℕ) (R : Room) where
   pub length-done : length (take done (recordsOf bytes)) ≡ done
   length-done = length-take-le done (recordsOf bytes) (ran-works .fits)
 
-  pub done-worked : ran S allowance bytes R .tally .worked ≡ done
+  pub done-worked : ran S allowance bytes R c .tally .worked ≡ done
   done-worked =
       ap (λ (t : Tally). t .worked) (ran-works .tally) ∙ tallies-worked S (take done (recordsOf bytes)) R nothing ∙ zero-add _ ∙ length-done
 
-  pub done-place : ran S allowance bytes R .tally .place ≡ 11 * done
-  done-place =
-      ap (λ (t : Tally). t .place) (ran-works .tally) ∙ tallies-place S (take done (recordsOf bytes)) R nothing ∙ zero-add _ ∙ ap (λ (n : ℕ). 11 * n) length-done
+  pub done-place : ran S allowance bytes R c .tally .place ≡ sizes (take done (recordsOf bytes))
+  done-place = ap (λ (t : Tally). t .place) (ran-works .tally) ∙ tallies-place S (take done (recordsOf bytes)) R nothing ∙ zero-add _
 
   -- they stand in the bytes before its place
-  pub done-bytes : 11 * done ≤ length bytes
-  done-bytes = bytes-of-good done bytes (ran-works .fits) (ran-works .good)
+  pub done-bytes : sizes (take done (recordsOf bytes)) ≤ length bytes
+  done-bytes = bytes-of-good done bytes (ran-works .good)
 
   -- a run that stops before the last record stops inside the bytes; one that works them all, at their end
-  pub stops-inside : done < length (recordsOf bytes) → ran S allowance bytes R .tally .place < length bytes
+  pub stops-inside : done < length (recordsOf bytes) → ran S allowance bytes R c .tally .place < length bytes
   stops-inside h = omega (arith, done-place, byte-of-record done bytes h)
 
-  pub ends-whole : done ≡ length (recordsOf bytes) → ran S allowance bytes R .tally .place ≡ length bytes
-  ends-whole e = go (decLt (11 * done) (length bytes))
+  pub ends-whole : done ≡ length (recordsOf bytes) → ran S allowance bytes R c .tally .place ≡ length bytes
+  ends-whole e = go (decLt (sizes (take done (recordsOf bytes))) (length bytes))
     where
-      go : Dec (11 * done < length bytes) → ran S allowance bytes R .tally .place ≡ length bytes
+      go : Dec (sizes (take done (recordsOf bytes)) < length bytes) → ran S allowance bytes R c .tally .place ≡ length bytes
       go (yes h) = absurd (omega (arith, record-of-byte done bytes h))
       go (no h) = omega (arith, done-place, done-bytes)
 
   -- the run over just those bytes ends with 0 and leaves the same
-  pub ran-again : ran S allowance (take (ran S allowance bytes R .tally .place) bytes) R ≡ stopped 0 (ran S allowance bytes R .room) (ran S allowance bytes R .tally)
+  pub ran-again : ran S allowance (take (ran S allowance bytes R c .tally .place) bytes) R c
+      ≡ stopped 0 (ran S allowance bytes R c .room) (ran S allowance bytes R c .cards) (ran S allowance bytes R c .tally)
   unfolding ran
   ran-again =
-      ap (λ (p : ℕ). ran S allowance (take p bytes) R) done-place
-      ∙ ap (λ (qs : List Request). work S allowance qs R nothing) (records-take done bytes done-bytes) ∙ ran-works .again
+      ap (λ (p : ℕ). ran S allowance (take p bytes) R c) done-place
+      ∙ ap (λ (rs : List Record). work S allowance rs R c nothing) (records-take done bytes (ran-works .good)) ∙ ran-works .again
 
 -- a run that stops leaves all as the run over the bytes before its place, which ends with 0
 pub run-stops : RunStops
-run-stops profile L F bytes allowance T c =
-    let r : Ran = ran (sharesOf profile (L .slots)) allowance bytes (roomOf (L .slots) F) in
-    rw (run-checked profile L F bytes allowance T c, run-checked profile L F (take (r .tally .place) bytes) allowance T c, ran-again (sharesOf profile (L .slots)) allowance bytes (roomOf (L .slots) F))
+run-stops profile L F bytes allowance T e =
+    let r : Ran = ran (sharesOf profile (L .slots)) allowance bytes (roomOf (L .slots) F) (cardsOf L) in
+    rw (
+      run-checked profile L F bytes allowance T e,
+      run-checked profile L F (take (r .tally .place) bytes) allowance T e,
+      ran-again (sharesOf profile (L .slots)) allowance bytes (roomOf (L .slots) F) (cardsOf L),
+    )
     (record { stop = refl; lent = refl; forecast = refl; totals = refl; tally = refl })

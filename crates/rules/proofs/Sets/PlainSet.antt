@@ -1,5 +1,5 @@
 -- The plain set is a set: what it has, and what add, remove and beyond leave.
-use mathlib.Core.Path.{_≡_, sym, subst}
+use mathlib.Core.Path.{_≡_, refl, sym, ap, subst}
 use mathlib.Core.Bool.{Bool, true, false, not}
 use mathlib.Core.Logic.{_⊎_, inl, inr, _≢_, _↔_}
 use mathlib.Core.List.{List, [], _∷_, List·Memᴰ as Mem, List·Memᴰ·head as here, List·Memᴰ·tail as there}
@@ -7,6 +7,7 @@ use mathlib.Core.List.{List·Memᴰ·cases-cons as mem-cases, List·Memᴰ·appe
 use Prim.Native.Nat.{ℕ, suc, _≤_, _<_}
 use native.Mathlib.Omega.{arith}
 use lib.Dec.{T, leb, ltb, eqb, lt→ltb, eqb→eq, nleb→lt}
+use borrow.Author.Tests.{eq-eqb, ne-eqb}
 use lib.ListN.{length}
 use Rattle.lists.specs.Choice.{if_then_else_}
 use Rattle.lists.proofs.Tests.{either, tested}
@@ -70,25 +71,25 @@ module _ (y : ℕ) where
       either (Within (suc (length ks))) (eqb y j) (omega arith) (omega arith)
 
 -- WHATEVER IS ASKED a rising list of at most `most` keys stays one
-abbrev Bounded : ℕ → List ℕ → Type 0
-Bounded most ks = Rising ks × (length ks ≤ most)
+abbrev Bounded : ℕ → set.Events → Type 0
+Bounded most E = Rising (E .keys) × (length (E .keys) ≤ most)
 
-bounded-after : (most : ℕ) (a : set.Ask) (ks : List ℕ) → Bounded most ks → Bounded most (set.after most a ks)
-bounded-after most (set.Insert y) ks b = go (eqb y 0) (set.has y ks) (leb most (length ks)) (nleb→lt most (length ks))
+bounded-after : (most : ℕ) (a : set.Ask) (E : set.Events) → Bounded most E → Bounded most (set.after most a E)
+bounded-after most (set.Insert y v) E b = go (eqb y 0) (set.has y (E .keys)) (leb most (length (E .keys))) (nleb→lt most (length (E .keys)))
   where
-    go : (c d e : Bool) → (T (not e) → length ks < most) → Bounded most (if eqb (if c then 5 else if d then 6 else if e then 8 else 0) 0 then set.add y ks else ks)
+    go : (c d e : Bool) → (T (not e) → length (E .keys) < most) → Bounded most (if eqb (if c then 5 else if d then 6 else if e then 8 else 0) 0 then set.gain y v E else E)
     go true d e p = b
     go false true e p = b
     go false false true p = b
-    go false false false p = (add-rising y ks (b .0), omega (arith, length-add y ks, p tt))
-bounded-after most (set.Delete y) ks b =
-    either (Bounded most) (eqb (set.deleteNumber y ks) 0) (remove-rising y ks (b .0), omega (arith, length-remove y ks, b .1)) b
-bounded-after most (set.Lookup y) ks b = b
-bounded-after most (set.Scan a out) ks b = b
+    go false false false p = (add-rising y (E .keys) (b .0), omega (arith, length-add y (E .keys), p tt))
+bounded-after most (set.Delete y) E b =
+    either (Bounded most) (eqb (set.deleteNumber y (E .keys)) 0) (remove-rising y (E .keys) (b .0), omega (arith, length-remove y (E .keys), b .1)) b
+bounded-after most (set.Lookup y) E b = b
+bounded-after most (set.Scan a out cards) E b = b
 
-bounded-all : (most : ℕ) (asks : List set.Ask) (ks : List ℕ) → Bounded most ks → Bounded most (set.afterAll most asks ks)
-bounded-all most [] ks b = b
-bounded-all most (a ∷ asks) ks b = bounded-all most asks (set.after most a ks) (bounded-after most a ks b)
+bounded-all : (most : ℕ) (asks : List set.Ask) (E : set.Events) → Bounded most E → Bounded most (set.afterAll most asks E)
+bounded-all most [] E b = b
+bounded-all most (a ∷ asks) E b = bounded-all most asks (set.after most a E) (bounded-after most a E b)
 
 -- the statement of the specs, whole
 pub isSet : IsSet
@@ -99,5 +100,8 @@ isSet = record {
   remove = λ y ks. removed y ks;
   beyond = λ a ks k. rw (← above-beyond a ks) (λ m. above-mem a ks k m, λ p. mem-only (λ j. ltb a j) ks k (p .1) (lt→ltb a k (p .0)));
   rising = λ a ks h. subst Rising (above-beyond a ks) (only-rising (λ k. ltb a k) ks h);
-  atMost = λ most asks. bounded-all most asks [] (tt, omega arith);
+  atMost = λ most asks. bounded-all most asks set.empty (tt, omega arith);
+  gained = λ y v E. ap (λ (b : Bool). if b then v else E .card y) (eq-eqb y y refl);
+  others = λ y v E k n. ap (λ (b : Bool). if b then v else E .card k) (ne-eqb k y n);
+  lost = λ y E k. refl;
 }

@@ -11,34 +11,28 @@ use Rattle.rules.specs.PlainSet as set
 use Rattle.rules.proofs.Sets.SetLaws.{has-member}
 
 -- the three answers of a lookup, by its two tests
-abbrev chosen : Bool → Bool → ℕ → Found
-chosen b c s = if b then notFound 5 else if c then record { number = 0; present = true; segment = s } else notFound 0
+abbrev chosen : Bool → Bool → ℕ → ℕ → Found
+chosen a b s v = if a then notFound 5 else if b then record { number = 0; present = true; segment = s; card = v } else notFound 0
 
-module _ (y : ℕ) (ss : Segments) where
+module _ (y : ℕ) (c : ℕ → ℕ) (ss : Segments) where
   -- the number: 5 for key 0, else 0
-  pub looked-number : lookedUp y ss .number ≡ (if eqb y 0 then 5 else 0)
+  pub looked-number : lookedUp y c ss .number ≡ (if eqb y 0 then 5 else 0)
   unfolding lookedUp
   looked-number = go (eqb y 0) (member y (keys ss))
     where
-      go : (b c : Bool) → chosen b c (segmentOf ss y) .number ≡ (if b then 5 else 0)
-      go true c = refl
+      go : (a b : Bool) → chosen a b (segmentOf ss y) (c y) .number ≡ (if a then 5 else 0)
+      go true b = refl
       go false true = refl
       go false false = refl
 
-  -- present, as the set has it
-  pub looked-present : lookedUp y ss .present ≡ (if eqb y 0 then false else set.has y (keys ss))
+  -- number, present and card, as the set has them, whatever its bounds
+  pub lookup-told : (most few : ℕ)
+      → set.Found (lookedUp y c ss .number) (lookedUp y c ss .present) (lookedUp y c ss .card) ≡ set.told most few (set.Lookup y) (record { keys = keys ss; card = c })
   unfolding lookedUp
-  looked-present = rw (has-member y (keys ss)) (go (eqb y 0) (member y (keys ss)))
+  lookup-told most few = rw (has-member y (keys ss)) (go (eqb y 0) (member y (keys ss)))
     where
-      go : (b c : Bool) → chosen b c (segmentOf ss y) .present ≡ (if b then false else c)
-      go true c = refl
+      go : (a b : Bool) → set.Found (chosen a b (segmentOf ss y) (c y) .number) (chosen a b (segmentOf ss y) (c y) .present) (chosen a b (segmentOf ss y) (c y) .card)
+          ≡ (if a then set.Found 5 false 0 else if b then set.Found 0 true (c y) else set.Found 0 false 0)
+      go true b = refl
       go false true = refl
       go false false = refl
-
-  -- both, whatever the set's bounds
-  pub lookup-told : (most few : ℕ) → set.Found (lookedUp y ss .number) (lookedUp y ss .present) ≡ set.told most few (set.Lookup y) (keys ss)
-  lookup-told most few = rw (looked-number, looked-present) (go (eqb y 0))
-    where
-      go : (b : Bool) → set.Found (if b then 5 else 0) (if b then false else set.has y (keys ss)) ≡ (if b then set.Found 5 false else set.Found 0 (set.has y (keys ss)))
-      go true = refl
-      go false = refl

@@ -1,8 +1,8 @@
 -- Scan is answered as the plain set answers, and a scan into an empty output.
 use mathlib.Core.Path.{_≡_, refl, sym, ap, _∙_, subst}
 use mathlib.Core.Bool.{not}
-use mathlib.Core.Logic.{inl, inr, _↔_}
-use mathlib.Core.List.{List, [], _∷_, _++_, List·Memᴰ as Mem, List·Memᴰ·head as here, List·Memᴰ·tail as there}
+use mathlib.Core.Logic.{_⊎_, inl, inr, _↔_}
+use mathlib.Core.List.{List, [], _∷_, _++_, map, List·Memᴰ as Mem, List·Memᴰ·head as here, List·Memᴰ·tail as there}
 use mathlib.Core.List.{List·Memᴰ·not-nil as nowhere, List·Memᴰ·cases-cons as mem-cases}
 use Prim.Native.Nat.{ℕ, suc, _≤_, _<_}
 use native.Mathlib.Nat.{le-refl}
@@ -10,8 +10,8 @@ use native.Mathlib.Decide.{decLt}
 use native.Mathlib.Omega.{arith}
 use lib.Dec.{T, ltb, ltb→lt, lt→ltb}
 use borrow.Author.Tests.{lt-ltb, le-ltb}
-use lib.ListN.{length, take, drop, getD}
-use lib.Seq.{length-take-le, take-all, split-at}
+use lib.ListN.{length, take, drop, getD, length-take}
+use lib.Seq.{length-take-le, take-nil, take-take, take-all, split-at}
 use Rattle.lists.specs.Lists.{All, anyOf}
 use Rattle.lists.proofs.Tests.{is-true, is-false, le→nltb}
 use Rattle.lists.proofs.Filtered.{mem-only, none-any, any-some, some-any}
@@ -78,36 +78,63 @@ module _ (a : ℕ) (ks : List ℕ) (h : Rising ks) where
         | no p ↦ rw (take-all n (above a ks) (omega arith)) (is-false _ none-left ∙ sym (le-ltb _ _ (le-refl (length (above a ks)))))
       ]
 
--- what a scan tells, part by part: the page that is written, its number of keys, the output and more
-module _ (a : ℕ) (ss : Segments) (out : List ℕ) where
-  abbrev pub page : List ℕ
-  page = take (length out) (set.beyond a (keys ss))
+-- a list cut to two sizes is cut to one of them
+take-both : (m n : ℕ) (xs : List ℕ) → (k : ℕ) × (take m (take n xs) ≡ take k xs)
+take-both m n xs =
+    elim (decLt m n) [
+      | yes p ↦ (m, take-take m n xs (omega arith))
+      | no p ↦ (n, take-all m (take n xs) (omega (arith, length-take n xs)))
+    ]
 
-  pub scanned-number : scanned a ss out .number ≡ 0
+-- what a scan tells, part by part: the page that is written, its number of keys, the two outputs and more
+module _ (a : ℕ) (c : ℕ → ℕ) (ss : Segments) (out cards : List ℕ) where
+  abbrev pub page : List ℕ
+  page = take (length cards) (take (length out) (set.beyond a (keys ss)))
+
+  -- the same page, in the rules' word for it
+  page-is : take (length cards) (take (length out) (above a (keys ss))) ≡ page
+  page-is = ap (λ (f : List ℕ). take (length cards) (take (length out) f)) (above-beyond a (keys ss))
+
+  pub scanned-number : scanned a c ss out cards .number ≡ 0
   unfolding scanned
   scanned-number = refl
 
-  pub scanned-written : scanned a ss out .written ≡ length page
+  pub scanned-written : scanned a c ss out cards .written ≡ length page
   unfolding scanned
-  scanned-written = ap (λ (f : List ℕ). length (take (length out) f)) (above-beyond a (keys ss))
+  scanned-written = ap (λ (f : List ℕ). length f) page-is
 
-  pub scanned-output : scanned a ss out .output ≡ page ++ drop (length page) out
+  pub scanned-output : scanned a c ss out cards .output ≡ page ++ drop (length page) out
   unfolding scanned
-  scanned-output = ap (λ (f : List ℕ). take (length out) f ++ drop (length (take (length out) f)) out) (above-beyond a (keys ss))
+  scanned-output = ap (λ (f : List ℕ). f ++ drop (length f) out) page-is
 
-  pub scanned-more : Rising (keys ss) → scanned a ss out .more ≡ ltb (length page) (length (set.beyond a (keys ss)))
+  pub scanned-cards : scanned a c ss out cards .cards ≡ map c page ++ drop (length page) cards
   unfolding scanned
-  scanned-more h = more-is a (keys ss) h (length out) ∙ ap (λ (f : List ℕ). ltb (length (take (length out) f)) (length f)) (above-beyond a (keys ss))
+  scanned-cards = ap (λ (f : List ℕ). map c f ++ drop (length f) cards) page-is
+
+  pub scanned-more : Rising (keys ss) → scanned a c ss out cards .more ≡ ltb (length page) (length (set.beyond a (keys ss)))
+  unfolding scanned
+  scanned-more h =
+      ap (λ (f : List ℕ). anyOf (ltb (lastOr a f)) (keys ss)) (one-cut .1) ∙ more-is a (keys ss) h (one-cut .0)
+      ∙ ap (λ (f : List ℕ). ltb (length f) (length (above a (keys ss)))) (sym (one-cut .1))
+      ∙ ap (λ (f : List ℕ). ltb (length (take (length cards) (take (length out) f))) (length f)) (above-beyond a (keys ss))
+    where
+      one-cut : (n : ℕ) × (take (length cards) (take (length out) (above a (keys ss))) ≡ take n (above a (keys ss)))
+      one-cut = take-both (length cards) (length out) (above a (keys ss))
 
   -- and all of it, whatever the set's bounds
   pub scan-told : (most few : ℕ) → Rising (keys ss)
-      → set.Scanned (scanned a ss out .number) (scanned a ss out .written) (scanned a ss out .more) (scanned a ss out .output) ≡ set.told most few (set.Scan a out) (keys ss)
-  scan-told most few h = λ i. set.Scanned (scanned-number i) (scanned-written i) (scanned-more h i) (scanned-output i)
+      → set.Scanned (scanned a c ss out cards .number) (scanned a c ss out cards .written) (scanned a c ss out cards .more) (scanned a c ss out cards .output) (scanned a c ss out cards .cards)
+      ≡ set.told most few (set.Scan a out cards) (record { keys = keys ss; card = c })
+  scan-told most few h = λ i. set.Scanned (scanned-number i) (scanned-written i) (scanned-more h i) (scanned-output i) (scanned-cards i)
 
--- Into an empty output 0 keys are written, and more remain exactly if a live key above a exists.
-pub scan-none : (a : ℕ) (ss : Segments) → (scanned a ss [] .written ≡ 0) × (T (scanned a ss [] .more) ↔ ((k : ℕ) × Mem k (keys ss) × (a < k)))
-unfolding scanned
-scan-none a ss = (
-  refl,
-  (λ t. (any-some (ltb a) (keys ss) t .0, any-some (ltb a) (keys ss) t .1, ltb→lt _ _ (any-some (ltb a) (keys ss) t .2)), λ k. some-any (ltb a) (keys ss) (k .0) (k .1) (lt→ltb a (k .0) (k .2))),
-)
+-- Where either output is empty 0 keys are written, and more remain exactly if a live key above a exists.
+module _ (a : ℕ) (c : ℕ → ℕ) (ss : Segments) (out cards : List ℕ) (empty : (out ≡ []) ⊎ (cards ≡ [])) where
+  none-fit : take (length cards) (take (length out) (above a (keys ss))) ≡ []
+  none-fit = elim empty [ inl e ↦ rw e (take-nil (length cards)) | inr e ↦ rw e refl ]
+
+  pub scan-none : (scanned a c ss out cards .written ≡ 0) × (T (scanned a c ss out cards .more) ↔ ((k : ℕ) × Mem k (keys ss) × (a < k)))
+  unfolding scanned
+  scan-none = rw none-fit (
+    refl,
+    (λ t. (any-some (ltb a) (keys ss) t .0, any-some (ltb a) (keys ss) t .1, ltb→lt _ _ (any-some (ltb a) (keys ss) t .2)), λ k. some-any (ltb a) (keys ss) (k .0) (k .1) (lt→ltb a (k .0) (k .2))),
+  )

@@ -1,5 +1,7 @@
--- `put_in` puts a new key into its segment, and the index is kept.
+-- `put_in` puts a new key into its segment, with its card, and the index is kept.
 use mathlib.Core.Path.{refl}
+use Prim.Native.Nat.{_+_, _-_, _*_}
+use Rattle.shifts.proofs.InSegment.{opened-cards}
 use Rattle.shifts.proofs.Shifted.{shifted-in}
 use borrow.Author.Needs.{needs}
 use Rattle.shifts.proofs.put_in.Statement.{statement}
@@ -26,6 +28,18 @@ part-open-gap-start c = search needs
 part-open-gap-end : tie.Need-part-open-gap-end
 part-open-gap-end c = search needs
 
+mul-open-gap-2 : tie.Need-mul-open-gap-2
+mul-open-gap-2 c = search needs
+
+sub-open-gap-2 : tie.Need-sub-open-gap-2
+sub-open-gap-2 c = search needs
+
+part-open-gap-start-2 : tie.Need-part-open-gap-start-2
+part-open-gap-start-2 c = search needs
+
+part-open-gap-end-2 : tie.Need-part-open-gap-end-2
+part-open-gap-end-2 c = search needs
+
 open-gap-requires : tie.Need-open-gap-requires
 open-gap-requires c κs = search needs
 
@@ -38,11 +52,19 @@ same-length c = search needs
 same-length-2 : tie.Need-same-length-2
 same-length-2 c = search needs
 
+same-length-3 : tie.Need-same-length-3
+same-length-3 c = search needs
+
 returns : tie.Need-returns
-returns c ss bounds ix at t key =
-    let st = c .before .before .before .before .before .before .before .before .before .before in
+returns c =
+    let st = c .before .before .before .before .before .before .before .before .before .before .before .before .before .before in
     let a = st .args in
-    shifted-in (a .key) ss (a .list .now) bounds (a .table .now) (a .place) ix at _ _ _ refl refl t key (st .pre .1) (st .pre .2) (c .before .before .before .before .before .before .open-gap .ensures) _ (c .before .before .add-one .ensures)
+    let b = 64 * a .place .segment in
+    let opens = c .before .before .before .before .before .before .before .before .open-gap in (
+      λ ss bounds ix at t key.
+          shifted-in (a .key) ss (a .list .now) bounds (a .table .now) (a .place) ix at _ _ _ refl refl t key (st .pre .0 .1) (st .pre .0 .2) (opens .ensures .0) _ (c .before .before .add-one .ensures),
+      λ f k h. opened-cards f (a .list .now) h b (b + 64 - b) (a .place .held) (a .place .at) (a .key) (a .card) k (opens .ensures .0) (opens .ensures .1),
+    )
 
 pub put-in-spec : {M : Type 1} → statement M
 put-in-spec =
@@ -55,8 +77,13 @@ put-in-spec =
     sub-open-gap
     part-open-gap-start
     part-open-gap-end
+    mul-open-gap-2
+    sub-open-gap-2
+    part-open-gap-start-2
+    part-open-gap-end-2
     open-gap-requires
     add-one-requires
     same-length
     same-length-2
+    same-length-3
     returns)

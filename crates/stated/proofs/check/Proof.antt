@@ -1,4 +1,5 @@
--- `check` checks the list, the table and the forecast that the words show.
+-- `check` checks the list, the cards, the table and the forecast that the words show.
+use Rattle.rules.specs.Lent.{lend}
 use Rattle.stated.proofs.ReadGiven.{check-given}
 use borrow.Author.Needs.{needs}
 use Rattle.stated.proofs.check.Statement.{statement}
@@ -15,10 +16,10 @@ check-number-requires c κs = search needs
 
 returns : tie.Need-returns
 returns c =
-    let s = c .before .before .before .before .before .before in
+    let s = c .before .before .before .before .before .before .before in
     let read = c .before .before .read-forecast in
     let checked = c .before .check in
-    check-given (s .args .profile) (s .args .list .now) (s .args .table .now) (s .args .forecast .now) (s .pre) (read .result) (checked .result) (c .check-number .result) (read .ensures) (checked .ensures) (c .check-number .ensures)
+    check-given (s .args .profile) (lend (s .args .list .now) (s .args .cards .now) (s .args .table .now)) (s .args .forecast .now) (s .pre) (read .result) (checked .result) (c .check-number .result) (read .ensures) (checked .ensures) (c .check-number .ensures)
 
 pub check-spec : {M : Type 1} → statement M
 check-spec =

@@ -1,4 +1,5 @@
 -- `make` makes, and writes the empty forecast's words.
+use Rattle.rules.specs.Lent.{lend}
 use Rattle.stated.proofs.ReadGiven.{make-given}
 use borrow.Author.Needs.{needs}
 use Rattle.stated.proofs.make.Statement.{statement}
@@ -22,12 +23,16 @@ same-length-2 c = search needs
 same-length-3 : tie.Need-same-length-3
 same-length-3 c = search needs
 
+same-length-4 : tie.Need-same-length-4
+same-length-4 c = search needs
+
 returns : tie.Need-returns
 returns c =
-    let s = c .before .before .before .before .before .before .before .before .before .before .before .before .before .before .before .before in
-    let made = c .before .before .before .before .before .before .before .before .before .before .make in
+    let s = c .before .before .before .before .before .before .before .before .before .before .before .before .before .before .before .before .before .before .before .before in
+    let made = c .before .before .before .before .before .before .before .before .before .before .before .before .make in
     let number = c .before .before .before .before .before .make-number in
-    make-given (s .args .profile) (s .args .list .now) (s .args .table .now) (s .args .forecast .now) (s .pre) (made .result) (number .result) _ _ _ (made .ensures) (c .before .before .write-forecast .ensures) (number .ensures)
+    let left = made .last .1 in
+    make-given (s .args .profile) (lend (s .args .list .now) (s .args .cards .now) (s .args .table .now)) (s .args .forecast .now) (s .pre) (made .result) (number .result) (lend (left .0) (left .1 .0) (left .1 .1 .0)) _ (made .ensures) (c .before .before .write-forecast .ensures) (number .ensures)
 
 pub make-spec : {M : Type 1} → statement M
 make-spec =
@@ -39,4 +44,5 @@ make-spec =
     same-length
     same-length-2
     same-length-3
+    same-length-4
     returns)

@@ -1,4 +1,5 @@
--- `scan` writes the keys, and the two words of its reply.
+-- `scan` writes the keys, their cards, and the two words of its reply.
+use Rattle.rules.specs.Lent.{lend}
 use Rattle.stated.proofs.ReadGiven.{scan-given}
 use borrow.Author.Needs.{needs}
 use Rattle.stated.proofs.scan.Statement.{statement}
@@ -19,15 +20,18 @@ same-length c = search needs
 same-length-2 : tie.Need-same-length-2
 same-length-2 c = search needs
 
+same-length-3 : tie.Need-same-length-3
+same-length-3 c = search needs
+
 returns : tie.Need-returns
 returns c =
-    let s = c .before .before .before .before .before .before .before .before .before .before .before .before .before in
-    let scanned = c .before .before .before .before .before .before .before .scan in
+    let s = c .before .before .before .before .before .before .before .before .before .before .before .before .before .before .before .before .before .before in
+    let scanned = c .before .before .before .before .before .before .before .before .before .scan in
     let told = c .before .before .before .before .scan-told in
     let tell = c .before .before .tell-two in
-    scan-given (s .args .profile) (s .args .list .now) (s .args .table .now) (s .args .from) (s .args .reply .now) (s .pre) (s .args .output .now) (scanned .result) (told .result) (tell .result) _ _ (scanned .ensures) (told .ensures) (tell .ensures .0) (tell .ensures .1)
+    scan-given (s .args .profile) (lend (s .args .list .now) (s .args .cards .now) (s .args .table .now)) (s .args .from) (s .args .reply .now) (s .pre) (s .args .output .now) (s .args .output-cards .now) (scanned .result) (told .result) (tell .result) _ _ _ (scanned .ensures) (told .ensures) (tell .ensures .0) (tell .ensures .1)
 
 pub scan-spec : {M : Type 1} → statement M
 scan-spec =
     tie.close
-    (tie.spec scan-requires scan-told-requires tell-two-requires same-length same-length-2 returns)
+    (tie.spec scan-requires scan-told-requires tell-two-requires same-length same-length-2 same-length-3 returns)

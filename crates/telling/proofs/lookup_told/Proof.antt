@@ -1,4 +1,4 @@
--- `lookup_told` tells the number alone of an answer that refuses, else whether the key is live, and its segment.
+-- `lookup_told` tells the number alone of an answer that refuses, else whether the key is live, its segment and its card.
 use mathlib.Core.Path.{refl, sym}
 use borrow.Author.Needs.{needs}
 use Rattle.telling.proofs.lookup_told.Statement.{statement}
@@ -15,6 +15,9 @@ number-alone-requires c κs = search needs
 
 enum-known-answer-2 : tie.Need-enum-known-answer-2
 enum-known-answer-2 c = search needs
+
+cast-t8 : tie.Need-cast-t8
+cast-t8 c = search needs
 
 enum-told : tie.Need-enum-told
 enum-told c = search needs
@@ -39,6 +42,7 @@ lookup-told-spec =
     refusal-number-requires
     number-alone-requires
     enum-known-answer-2
+    cast-t8
     enum-told
     number-alone-requires-2
     returns

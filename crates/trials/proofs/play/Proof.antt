@@ -1,4 +1,4 @@
--- `play` is safe and ends. The loop's invariant: the commands worked are commands, and slots and table keep their lengths.
+-- `play` is safe and ends. The loop's invariant: the commands worked are commands, and what is lent keeps its lengths.
 use Prim.Native.Nat.{_-_, _≤_}
 use mathlib.Core.Path.{_≡_}
 use lib.ListN.{length}
@@ -7,10 +7,11 @@ use Rattle.trials.proofs.play.Statement.{statement}
 use Rattle.trials.proofs.play.Tie as tie
 
 abbrev Inv-loop : tie.InvT-loop
-Inv-loop input slots₀ table₀ room₀ n i₀ slots table room i = (i ≤ n) × ((length slots ≡ length slots₀) × (length table ≡ length table₀))
+Inv-loop input slots₀ cards₀ table₀ room₀ n i₀ slots cards table room i =
+    (i ≤ n) × ((length slots ≡ length slots₀) × ((length cards ≡ length cards₀) × (length table ≡ length table₀)))
 
 abbrev μ-loop : tie.MeasureT-loop
-μ-loop input slots₀ table₀ room₀ n i₀ slots table room i = n - i
+μ-loop input slots₀ cards₀ table₀ room₀ n i₀ slots cards table room i = n - i
 
 empty-requires : tie.Need-empty-requires Inv-loop μ-loop
 empty-requires c κs = search needs
@@ -24,11 +25,11 @@ mul-command-at c = search needs
 command-at-requires : tie.Need-command-at-requires Inv-loop μ-loop
 command-at-requires c κs = search needs
 
-work-requires : tie.Need-work-requires Inv-loop μ-loop
-work-requires c κs = search needs
-
 add-i : tie.Need-add-i Inv-loop μ-loop
 add-i c = search needs
+
+work-requires : tie.Need-work-requires Inv-loop μ-loop
+work-requires c κs = search needs
 
 loop-less : tie.Need-loop-less Inv-loop μ-loop
 loop-less c = search needs
@@ -41,6 +42,9 @@ same-length c = search needs
 
 same-length-2 : tie.Need-same-length-2 Inv-loop μ-loop
 same-length-2 c = search needs
+
+same-length-3 : tie.Need-same-length-3 Inv-loop μ-loop
+same-length-3 c = search needs
 
 returns : tie.Need-returns Inv-loop μ-loop
 returns c = search needs
@@ -55,10 +59,11 @@ play-spec =
     loop-holds
     mul-command-at
     command-at-requires
-    work-requires
     add-i
+    work-requires
     loop-less
     loop-again
     same-length
     same-length-2
+    same-length-3
     returns)

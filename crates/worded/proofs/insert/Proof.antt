@@ -25,14 +25,17 @@ same-length-3 c = search needs
 same-length-4 : tie.Need-same-length-4
 same-length-4 c = search needs
 
+same-length-5 : tie.Need-same-length-5
+same-length-5 c = search needs
+
 returns : tie.Need-returns
 returns c =
-    let s = c .before .before .before .before .before .before .before .before .before .before .before .before .before .before .before .before .before .before .before .before in
+    let s = c .before .before .before .before .before .before .before .before .before .before .before .before .before .before .before .before .before .before .before .before .before .before .before .before in
     let a = s .args in
-    let read = c .before .before .before .before .before .before .before .before .before .before .before .before .before .before .read-forecast in
-    let done = c .before .before .before .before .before .before .before .before .before .before .before .insert in
+    let read = c .before .before .before .before .before .before .before .before .before .before .before .before .before .before .before .before .before .read-forecast in
+    let done = c .before .before .before .before .before .before .before .before .before .before .before .before .before .insert in
     let post = c .before .before .before .before .post-insert in
-    insert-given (a .profile) (a .list .now) (a .table .now) (a .forecast .now) (a .key) (a .reply .now) (s .pre .0) (read .result) (done .result) (post .result) _ _ _ _ (s .pre .1) (read .ensures) (done .ensures) (post .ensures)
+    insert-given (a .profile) (a .list .now) (a .cards .now) (a .table .now) (a .forecast .now) (a .key) (a .reply .now) (s .pre .0) (a .card) (read .result) (done .result) (post .result) _ _ _ _ _ (s .pre .1) (read .ensures) (done .ensures) (post .ensures)
 
 pub insert-spec : {M : Type 1} → statement M
 insert-spec =
@@ -45,4 +48,5 @@ insert-spec =
     same-length-2
     same-length-3
     same-length-4
+    same-length-5
     returns)

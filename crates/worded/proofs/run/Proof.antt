@@ -14,7 +14,7 @@ run-told-requires : tie.Need-run-told-requires
 run-told-requires c κs = search needs
 
 post-run-requires : tie.Need-post-run-requires
-post-run-requires c κs = c .before .before .before .before .before .before .before .before .before .before .before .before .before .before .before .before .before .before .before .before .before .before .pre
+post-run-requires c κs = c .before .before .before .before .before .before .before .before .before .before .before .before .before .before .before .before .before .before .before .before .before .before .before .before .before .before .pre
 
 same-length : tie.Need-same-length
 same-length c = search needs
@@ -31,16 +31,20 @@ same-length-4 c = search needs
 same-length-5 : tie.Need-same-length-5
 same-length-5 c = search needs
 
+same-length-6 : tie.Need-same-length-6
+same-length-6 c = search needs
+
 returns : tie.Need-returns
 returns c =
-    let s = c .before .before .before .before .before .before .before .before .before .before .before .before .before .before .before .before .before .before .before .before .before .before .before .before .before .before .before .before .before in
+    let s = c .before .before .before .before .before .before .before .before .before .before .before .before .before .before .before .before .before .before .before .before .before .before .before .before .before .before .before .before .before .before .before .before .before in
     let a = s .args in
-    let forecast = c .before .before .before .before .before .before .before .before .before .before .before .before .before .before .before .before .before .before .before .before .before .read-forecast in
-    let totals = c .before .before .before .before .before .before .before .before .before .before .before .before .before .before .before .before .before .before .before .read-totals in
-    let ran = c .before .before .before .before .before .before .before .before .before .before .before .before .before .before .before .before .run-told in
+    let forecast = c .before .before .before .before .before .before .before .before .before .before .before .before .before .before .before .before .before .before .before .before .before .before .before .before .read-forecast in
+    let totals = c .before .before .before .before .before .before .before .before .before .before .before .before .before .before .before .before .before .before .before .before .before .before .read-totals in
+    let ran = c .before .before .before .before .before .before .before .before .before .before .before .before .before .before .before .before .before .before .run-told in
     let lent : OnWords = record {
       profile = a .profile;
       list = a .list .now;
+      cards = a .cards .now;
       table = a .table .now;
       forecast = a .forecast .now;
       requests = a .requests .now;
@@ -51,7 +55,7 @@ returns c =
       totals-fit = s .pre .1;
       reply-fits = s .pre .2;
     } in
-    run-given lent (forecast .result) (totals .result) (ran .result) _ _ _ _ _ (forecast .ensures) (totals .ensures) (ran .ensures) (c .before .before .before .before .before .before .post-run .ensures)
+    run-given lent (forecast .result) (totals .result) (ran .result) _ _ _ _ _ _ (forecast .ensures) (totals .ensures) (ran .ensures) (c .before .before .before .before .before .before .post-run .ensures)
 
 pub run-spec : {M : Type 1} → statement M
 run-spec =
@@ -66,4 +70,5 @@ run-spec =
     same-length-3
     same-length-4
     same-length-5
+    same-length-6
     returns)

@@ -10,12 +10,12 @@ no-forecast-requires c κs = search needs
 
 returns : tie.Need-returns
 returns c =
-    let a = c .before .before .before .before .before .args in
-    check-misfit (a .profile) (a .list .now) (a .table .now) (a .forecast .now) _ (c .before .no-forecast .ensures) (c .if1 .taken)
+    let a = c .before .before .before .before .before .before .args in
+    check-misfit (a .profile) (a .list .now) (a .cards .now) (a .table .now) (a .forecast .now) _ (c .before .no-forecast .ensures) (c .if1 .taken)
 
 check-requires : tie.Need-check-requires
 check-requires c κs =
-    let a = c .before .before .before .before .before .args in
+    let a = c .before .before .before .before .before .before .args in
     fit (a .forecast .now) _ (c .before .no-forecast .ensures) (c .if1 .left)
 
 returns-2 : tie.Need-returns-2

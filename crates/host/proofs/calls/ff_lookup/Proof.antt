@@ -6,8 +6,8 @@ use Rattle.host.proofs.calls.ff_lookup.Tie as tie
 
 returns : tie.Need-returns
 returns c =
-    let a = c .before .before .before .before .args in
-    lookup-misfit (a .profile) (a .list .now) (a .table .now) (a .key) (a .reply .now) (c .if1 .taken)
+    let a = c .before .before .before .before .before .args in
+    lookup-misfit (a .profile) (a .list .now) (a .cards .now) (a .table .now) (a .key) (a .reply .now) (c .if1 .taken)
 
 lookup-requires : tie.Need-lookup-requires
 lookup-requires c κs = search needs

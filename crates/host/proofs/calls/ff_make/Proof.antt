@@ -10,13 +10,13 @@ no-forecast-requires c κs = search needs
 
 returns : tie.Need-returns
 returns c =
-    let a = c .before .before .before .before .before .args in
-    make-misfit (a .profile) (a .list .now) (a .table .now) (a .forecast .now) _ (c .before .no-forecast .ensures) (c .if1 .taken)
+    let a = c .before .before .before .before .before .before .args in
+    make-misfit (a .profile) (a .list .now) (a .cards .now) (a .table .now) (a .forecast .now) _ (c .before .no-forecast .ensures) (c .if1 .taken)
 
 make-requires : tie.Need-make-requires
 make-requires c κs =
-    let a = c .before .before .before .before .before .before .before .before .args in
-    fit (a .forecast .now) _ (c .before .before .before .before .no-forecast .ensures) (c .before .before .before .if1 .left)
+    let a = c .before .before .before .before .before .before .before .before .before .before .args in
+    fit (a .forecast .now) _ (c .before .before .before .before .before .no-forecast .ensures) (c .before .before .before .before .if1 .left)
 
 same-length : tie.Need-same-length
 same-length c = search needs
@@ -27,10 +27,13 @@ same-length-2 c = search needs
 same-length-3 : tie.Need-same-length-3
 same-length-3 c = search needs
 
+same-length-4 : tie.Need-same-length-4
+same-length-4 c = search needs
+
 returns-2 : tie.Need-returns-2
 returns-2 c = search needs
 
 pub ff-make-spec : {M : Type 1} → statement M
 ff-make-spec =
     tie.close
-    (tie.spec no-forecast-requires returns make-requires same-length same-length-2 same-length-3 returns-2)
+    (tie.spec no-forecast-requires returns make-requires same-length same-length-2 same-length-3 same-length-4 returns-2)

@@ -6,8 +6,8 @@ use Rattle.host.proofs.calls.ff_scan.Tie as tie
 
 returns : tie.Need-returns
 returns c =
-    let a = c .before .before .before .before .before .args in
-    scan-misfit (a .profile) (a .list .now) (a .table .now) (a .from) (a .reply .now) (c .if1 .taken) (a .output .now)
+    let a = c .before .before .before .before .before .before .before .args in
+    scan-misfit (a .profile) (a .list .now) (a .cards .now) (a .table .now) (a .from) (a .reply .now) (a .output .now) (a .output-cards .now) (c .if1 .taken)
 
 scan-requires : tie.Need-scan-requires
 scan-requires c κs = search needs
@@ -18,8 +18,11 @@ same-length c = search needs
 same-length-2 : tie.Need-same-length-2
 same-length-2 c = search needs
 
+same-length-3 : tie.Need-same-length-3
+same-length-3 c = search needs
+
 returns-2 : tie.Need-returns-2
 returns-2 c = search needs
 
 pub ff-scan-spec : {M : Type 1} → statement M
-ff-scan-spec = tie.close (tie.spec returns scan-requires same-length same-length-2 returns-2)
+ff-scan-spec = tie.close (tie.spec returns scan-requires same-length same-length-2 same-length-3 returns-2)

@@ -10,13 +10,13 @@ misfits-requires c κs = search needs
 
 returns : tie.Need-returns
 returns c =
-    let a = c .before .before .before .before .before .before .args in
-    insert-misfit (a .profile) (a .list .now) (a .table .now) (a .forecast .now) (a .key) (a .reply .now) _ (c .before .misfits .ensures) (c .if1 .taken)
+    let a = c .before .before .before .before .before .before .before .args in
+    insert-misfit (a .profile) (a .list .now) (a .cards .now) (a .table .now) (a .forecast .now) (a .key) (a .reply .now) _ (a .card) (c .before .misfits .ensures) (c .if1 .taken)
 
 insert-requires : tie.Need-insert-requires
 insert-requires c κs =
-    let a = c .before .before .before .before .before .before .before .before .before .before .args in
-    both-fit (a .forecast .now) (a .reply .now) 1 _ (c .before .before .before .before .before .misfits .ensures) (c .before .before .before .before .if1 .left)
+    let a = c .before .before .before .before .before .before .before .before .before .before .before .before .args in
+    both-fit (a .forecast .now) (a .reply .now) 1 _ (c .before .before .before .before .before .before .misfits .ensures) (c .before .before .before .before .before .if1 .left)
 
 same-length : tie.Need-same-length
 same-length c = search needs
@@ -29,6 +29,9 @@ same-length-3 c = search needs
 
 same-length-4 : tie.Need-same-length-4
 same-length-4 c = search needs
+
+same-length-5 : tie.Need-same-length-5
+same-length-5 c = search needs
 
 returns-2 : tie.Need-returns-2
 returns-2 c = search needs
@@ -44,4 +47,5 @@ ff-insert-spec =
     same-length-2
     same-length-3
     same-length-4
+    same-length-5
     returns-2)

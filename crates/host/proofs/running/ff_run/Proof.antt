@@ -10,13 +10,13 @@ run-misfits-requires c κs = search needs
 
 returns : tie.Need-returns
 returns c =
-    let a = c .before .before .before .before .before .before .before .before .args in
-    run-misfit (a .profile) (a .list .now) (a .table .now) (a .forecast .now) (a .requests .now) (a .allowance) (a .totals .now) (a .reply .now) _ (c .before .run-misfits .ensures) (c .if1 .taken)
+    let a = c .before .before .before .before .before .before .before .before .before .args in
+    run-misfit (a .profile) (a .list .now) (a .cards .now) (a .table .now) (a .forecast .now) (a .requests .now) (a .allowance) (a .totals .now) (a .reply .now) _ (c .before .run-misfits .ensures) (c .if1 .taken)
 
 run-requires : tie.Need-run-requires
 run-requires c κs =
-    let a = c .before .before .before .before .before .before .before .before .before .before .before .before .before .args in
-    all-fit (a .forecast .now) (a .totals .now) (a .reply .now) _ (c .before .before .before .before .before .before .run-misfits .ensures) (c .before .before .before .before .before .if1 .left)
+    let a = c .before .before .before .before .before .before .before .before .before .before .before .before .before .before .before .args in
+    all-fit (a .forecast .now) (a .totals .now) (a .reply .now) _ (c .before .before .before .before .before .before .before .run-misfits .ensures) (c .before .before .before .before .before .before .if1 .left)
 
 same-length : tie.Need-same-length
 same-length c = search needs
@@ -33,6 +33,9 @@ same-length-4 c = search needs
 same-length-5 : tie.Need-same-length-5
 same-length-5 c = search needs
 
+same-length-6 : tie.Need-same-length-6
+same-length-6 c = search needs
+
 returns-2 : tie.Need-returns-2
 returns-2 c = search needs
 
@@ -48,4 +51,5 @@ ff-run-spec =
     same-length-3
     same-length-4
     same-length-5
+    same-length-6
     returns-2)

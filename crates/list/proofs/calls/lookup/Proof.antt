@@ -1,10 +1,15 @@
 -- `lookup` tells why what is lent is refused, or looks the key up in a list that passes.
 use mathlib.Core.Path.{_≡_, sym, ap, _∙_}
+use Prim.Native.Nat.{ℕ}
 use borrow.Author.Needs.{needs}
-use Rattle.rules.specs.Refusals.{verdictNumber}
-use Rattle.rules.specs.Lent.{lend}
+use Rattle.rules.specs.declared.Refusal.{Refusal}
+use Rattle.rules.specs.declared.Verdict.{Verdict}
+use Rattle.rules.specs.declared.Verdict.the-variants.{Refused}
+use Rattle.rules.specs.Refusals.{refusalNumber, verdictNumber}
+use Rattle.rules.specs.Lent.{Lent, lend}
 use Rattle.rules.specs.Checks.{checkRead}
 use Rattle.rules.specs.Looking.{notFound}
+use Rattle.rules.specs.Calls.{lookup}
 use Rattle.checks.proofs.Numbers.{refused-some}
 use Rattle.rules.proofs.Refusals.CheckCases.{lookup-refused}
 use Rattle.list.proofs.calls.lookup.Statement.{statement}
@@ -16,19 +21,18 @@ look-read-requires c κs = search needs
 enum-known-verdict : tie.Need-enum-known-verdict
 enum-known-verdict c = search needs
 
+-- where the check refuses, a lookup tells the number
+refused-told : (profile : ℕ) (L : Lent) (y : ℕ) (v : Verdict) (x : Refusal) → verdictNumber v ≡ checkRead profile L → v ≡ Refused x → notFound (refusalNumber x) ≡ lookup profile L y
+refused-told profile L y v x z e = sym (lookup-refused profile L y (λ n. refused-some v x e (z ∙ n)) ∙ ap notFound (sym z ∙ ap verdictNumber e))
+
 returns : tie.Need-returns
-returns c =
-    let z = c .before .before .before .look-read .ensures .number in
-    let v = c .before .verdict .given .1 in
-    record { answer = sym (lookup-refused _ _ _ (λ e. refused-some _ _ v (z ∙ e)) ∙ ap notFound (sym z ∙ ap verdictNumber v)) }
+returns c = record { answer = refused-told _ _ _ _ _ (c .before .before .before .look-read .ensures .number) (c .before .verdict .given .1) }
 
 enum-told : tie.Need-enum-told
 enum-told c = search needs
 
--- where the check accepts, list and table pass in their profile
-passes : (c : tie.After-enum-told)
-    → checkRead (c .before .before .before .before .before .args .profile)
-    (lend (c .before .before .before .before .before .args .list .now) (c .before .before .before .before .before .args .table .now)) ≡ 0
+-- where the check accepts, list, cards and table pass in their profile
+passes : (c : tie.After-enum-told) → let a = c .before .before .before .before .before .before .args in checkRead (a .profile) (lend (a .list .now) (a .cards .now) (a .table .now)) ≡ 0
 passes c = sym (c .before .before .look-read .ensures .number) ∙ ap verdictNumber (c .enum-told .given .1)
 
 look-up-requires : tie.Need-look-up-requires

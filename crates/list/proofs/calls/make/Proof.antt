@@ -1,4 +1,5 @@
--- `make` empties a list of any height and its table, and refuses an unknown profile, other slots and a table of another length.
+-- `make` empties a list of any height, its cards and its table, and refuses an unknown profile, other slots, and cards and a table of another
+-- length.
 use mathlib.Core.Path.{_≡_, sym, ap, _∙_}
 use mathlib.Core.Bool.{true}
 use mathlib.Core.Logic.{_≢_, inl, inr}
@@ -12,6 +13,7 @@ use lib.ListN.{length}
 use Rattle.slots.specs.Segments.{heightOf}
 use Rattle.slots.proofs.HeightLaws.{height-cases}
 use Rattle.slots.proofs.Windows.{pow-pos}
+use Rattle.moves.specs.Moves.{cleared}
 use Rattle.levels.specs.Tables.{tableSize}
 use Rattle.tables.proofs.Cleared.{all-cleared}
 use Rattle.forecast.specs.Cells.{forecastOf}
@@ -22,7 +24,7 @@ use Rattle.answers.specs.declared.MakeAnswer.{MakeAnswer}
 use Rattle.answers.specs.declared.MakeReply.{MakeReply}
 use Rattle.answers.specs.Answers.{makeNumber}
 use Rattle.answers.specs.Admits.{MakeAdmits}
-use Rattle.answers.proofs.Replies.{make-unknown, make-refused, make-wrong-table, make-done}
+use Rattle.answers.proofs.Replies.{make-unknown, make-refused, make-wrong-cards, make-wrong-table, make-done}
 use Rattle.list.proofs.calls.make.Statement.{statement}
 use Rattle.list.proofs.calls.make.Tie as tie
 
@@ -59,18 +61,15 @@ told-requires-2 : tie.Need-told-requires-2
 told-requires-2 c κs = search needs
 
 -- the profile is known
-known : (c : tie.Else1) → isProfile (c .before .before .before .before .args .profile) ≡ true
+known : (c : tie.Else1) → isProfile (c .before .before .before .before .before .args .profile) ≡ true
 known c = sym (c .before .is-profile .ensures) ∙ not-false _ (c .if1 .left)
 
 returns-2 : tie.Need-returns-2
 returns-2 c = admits _ _ _ _ _ (c .told2 .ensures) (make-refused _ _ (known (c .before .before .before)) (sym (c .before .before .height-of .ensures .0) ∙ c .before .if2 .taken))
 
 -- and so is the length
-high : (c : tie.Else2) → heightOf (length (c .before .before .before .before .before .before .args .list .now)) ≢ 0
+high : (c : tie.Else2) → heightOf (length (c .before .before .before .before .before .before .before .args .list .now)) ≢ 0
 high c e = absurd (omega (arith, c .if2 .left, c .before .height-of .ensures .0))
-
-sub-if3 : tie.Need-sub-if3
-sub-if3 c = size _ (high c) .0
 
 told-requires-3 : tie.Need-told-requires-3
 told-requires-3 c κs = search needs
@@ -78,7 +77,20 @@ told-requires-3 c κs = search needs
 returns-3 : tie.Need-returns-3
 returns-3 c =
     let p = c .before .before in
-    admits _ _ _ _ _ (c .told3 .ensures) (make-wrong-table _ _ (known (p .before .before)) (high p) (λ e. c .before .if3 .taken (e ∙ sym (size _ (high p) .1))))
+    admits _ _ _ _ _ (c .told3 .ensures) (make-wrong-cards _ _ (known (p .before .before)) (high p) (c .before .if3 .taken))
+
+-- and there are as many cards
+sub-if4 : tie.Need-sub-if4
+sub-if4 c = size _ (high (c .before)) .0
+
+told-requires-4 : tie.Need-told-requires-4
+told-requires-4 c κs = search needs
+
+returns-4 : tie.Need-returns-4
+returns-4 c =
+    let p = c .before .before .before in
+    admits _ _ _ _ _ (c .told4 .ensures)
+    (make-wrong-table _ _ (known (p .before .before)) (high p) (c .before .before .if3 .left) (λ e. c .before .if4 .taken (e ∙ sym (size _ (high p) .1))))
 
 clear-requires : tie.Need-clear-requires
 clear-requires c κs = search needs
@@ -86,8 +98,8 @@ clear-requires c κs = search needs
 clear-requires-2 : tie.Need-clear-requires-2
 clear-requires-2 c κs = search needs
 
-told-requires-4 : tie.Need-told-requires-4
-told-requires-4 c κs = search needs
+told-requires-5 : tie.Need-told-requires-5
+told-requires-5 c κs = search needs
 
 same-length : tie.Need-same-length
 same-length c = search needs
@@ -95,16 +107,22 @@ same-length c = search needs
 same-length-2 : tie.Need-same-length-2
 same-length-2 c = search needs
 
-returns-4 : tie.Need-returns-4
-returns-4 c =
-    let p = c .before .before .before .before .before .before .before .before .before .before in
-    let a = p .before .before .before .before .before .before .args in
-    let L : Lent = lend (a .list .now) (a .table .now) in
-    let slots = c .before .before .before .before .before .before .before .clear .ensures ∙ all-cleared (L .slots) in
+same-length-3 : tie.Need-same-length-3
+same-length-3 c = search needs
+
+returns-5 : tie.Need-returns-5
+returns-5 c =
+    let all = c .before .before .before .before .before .before .before .before .before .before .before .before in
+    let p = all .before .before in
+    let a = p .before .before .before .before .before .before .before .args in
+    let L : Lent = lend (a .list .now) (a .cards .now) (a .table .now) in
+    let both = c .before .before .before .before .before .before .before .before .before .clear .ensures in
+    let slots = both .0 ∙ all-cleared (L .slots) in
+    let cards = both .1 ∙ ap (λ (n : ℕ). cleared 0 n 0 (L .cards)) (sym (all .before .if3 .left)) ∙ all-cleared (L .cards) in
     let table = c .before .before .before .clear2 .ensures in
-    admits _ L _ _ _ (c .told4 .ensures)
-    (make-done _ L (known (p .before .before)) (high p) (c .before .before .before .before .before .before .before .before .before .if3 .left ∙ size _ (high p) .1)
-    ∙ λ i. record { lent = lend (sym slots i) (sym table i); forecast = forecastOf []; number = 0 })
+    admits _ L _ _ _ (c .told5 .ensures)
+    (make-done _ L (known (p .before .before)) (high p) (all .before .if3 .left) (all .if4 .left ∙ size _ (high p) .1)
+    ∙ λ i. record { lent = lend (sym slots i) (sym cards i) (sym table i); forecast = forecastOf []; number = 0 })
 
 pub make-spec : {M : Type 1} → statement M
 make-spec =
@@ -116,12 +134,15 @@ make-spec =
     height-of-requires
     told-requires-2
     returns-2
-    sub-if3
     told-requires-3
     returns-3
+    sub-if4
+    told-requires-4
+    returns-4
     clear-requires
     clear-requires-2
-    told-requires-4
+    told-requires-5
     same-length
     same-length-2
-    returns-4)
+    same-length-3
+    returns-5)

@@ -15,25 +15,26 @@ enum-known-verdict : tie.Need-enum-known-verdict
 enum-known-verdict c = search needs
 
 returns : tie.Need-returns
-returns c = refused-admits _ _ _ _ _ (sym (c .before .before .before .look-read .ensures .number) ∙ ap verdictNumber (c .before .verdict .given .1))
+returns c = refused-admits _ _ _ _ _ _ (sym (c .before .before .before .look-read .ensures .number) ∙ ap verdictNumber (c .before .verdict .given .1))
 
 enum-told : tie.Need-enum-told
 enum-told c = search needs
 
--- where the check accepts, list and table pass in their profile
-passes : (c : tie.After-enum-told)
-    → checkRead (c .before .before .before .before .before .before .args .profile)
-    (lend (c .before .before .before .before .before .before .args .list .now) (c .before .before .before .before .before .before .args .table .now)) ≡ 0
+-- where the check accepts, list, cards and table pass in their profile
+passes : (c : tie.After-enum-told) → let a = c .before .before .before .before .before .before .before .before .args in checkRead (a .profile) (lend (a .list .now) (a .cards .now) (a .table .now)) ≡ 0
 passes c = sym (c .before .before .look-read .ensures .number) ∙ ap verdictNumber (c .enum-told .given .1)
 
 scan-from-requires : tie.Need-scan-from-requires
-scan-from-requires c κs = (_, passes (c .before))
+scan-from-requires c κs = (_, passes (c .before .before))
 
 same-length : tie.Need-same-length
 same-length c = search needs
 
+same-length-2 : tie.Need-same-length-2
+same-length-2 c = search needs
+
 returns-2 : tie.Need-returns-2
-returns-2 c = c .before .before .scan-from .ensures _ (passes (c .before .before .before .before))
+returns-2 c = c .before .before .before .before .scan-from .ensures _ (passes (c .before .before .before .before .before .before .before))
 
 pub scan-spec : {M : Type 1} → statement M
 scan-spec =
@@ -45,4 +46,5 @@ scan-spec =
     enum-told
     scan-from-requires
     same-length
+    same-length-2
     returns-2)

@@ -23,15 +23,15 @@ use Rattle.forecast.specs.declared.Forecast.{Forecast}
 use Rattle.forecast.specs.Tidy.{Marker}
 use Rattle.rules.specs.Shares.{Shares, sparseBelow, cellsOf}
 use Rattle.rules.specs.Placing.{Room, Outcome, home, putIn, cutFrom, chosen, insertLevel, deleteLevel, sweep, settled, insertKey, deleteKey, outcome}
-use Rattle.rules.specs.History.{accepted}
+use Rattle.demands.specs.History.{accepted}
 use Rattle.rules.specs.Calls.{roomOf}
-use Rattle.rules.proofs.Sharing.Climb.{climb-is}
-use Rattle.rules.proofs.Sharing.Weighing.{noted-good, dropped-good}
-use Rattle.rules.proofs.Sweeping.Settled.{AtMost}
-use Rattle.rules.proofs.Sweeping.Unswept.{noted-placed, dropped-placed, unswept-insert, unswept-delete}
-use Rattle.rules.proofs.Requests.Accepted.{insert-accepted, delete-accepted}
-use Rattle.rules.proofs.Requests.KeysKept.{settled-cells}
-use Rattle.rules.proofs.Requests.StaysGood.{Good, good-next}
+use Rattle.demands.proofs.Sharing.Climb.{climb-is}
+use Rattle.demands.proofs.Sharing.Weighing.{noted-good, dropped-good}
+use Rattle.demands.proofs.Sweeping.Settled.{AtMost}
+use Rattle.demands.proofs.Sweeping.Unswept.{noted-placed, dropped-placed, unswept-insert, unswept-delete}
+use Rattle.demands.proofs.Requests.Accepted.{insert-accepted, delete-accepted}
+use Rattle.demands.proofs.Requests.KeysKept.{settled-cells}
+use Rattle.demands.proofs.Requests.StaysGood.{Good, good-next}
 use Rattle.shares.specs.declared.Shape.{Shape}
 use Rattle.shares.specs.Rows.{sharesAt}
 use Rattle.seats.proofs.Indexes.{counts-held}

@@ -5,7 +5,7 @@ use mathlib.Core.Logic.{inl, inr}
 use mathlib.Core.List.{List, [], List·Memᴰ as Mem, Memᴰ·map as mem-map}
 use Prim.Native.Nat.{ℕ, _+_, _*_, _/_, _^_, _≤_, _<_}
 use native.Mathlib.Omega.{arith}
-use lib.ListN.{length, getD}
+use lib.ListN.{length}
 use Rattle.lists.specs.Lists.{splice}
 use Rattle.lists.proofs.Maps.{length-splice}
 use Rattle.slots.specs.Segments.{Segments, keys, segmentsOf}
@@ -24,8 +24,8 @@ use Rattle.forecast.proofs.Became.{became-is}
 use Rattle.rules.specs.Shares.{Shares}
 use Rattle.rules.specs.Placing.{Room, frontWeight, newWindow, sweep}
 use Rattle.rules.specs.Calls.{roomOf}
-use Rattle.rules.proofs.Sharing.SharingOut.{length-shareOut}
-use Rattle.rules.proofs.Sweeping.SweptWindow.{splice-set}
+use Rattle.demands.proofs.Sharing.SharingOut.{length-shareOut}
+use Rattle.demands.proofs.Sweeping.SweptWindow.{splice-set}
 use Rattle.shares.specs.declared.Shape.{Shape}
 use Rattle.shares.specs.Rows.{sharesAt}
 use Rattle.seats.specs.Bounds.{Bounded}

@@ -21,10 +21,10 @@ use Rattle.forecast.specs.Tidy.{Tidy, Roomy, Became}
 use Rattle.rules.specs.Shares.{Shares}
 use Rattle.rules.specs.Placing.{Room, home, insertLevel}
 use Rattle.rules.specs.Readings.{Smallest}
-use Rattle.rules.specs.History.{accepted}
+use Rattle.demands.specs.History.{accepted}
 use Rattle.rules.specs.Calls.{roomOf}
-use Rattle.rules.proofs.Sweeping.Sizes.{insert-always-finds}
-use Rattle.rules.proofs.Requests.Accepted.{Inserts, insert-accepted, Deletes, delete-accepted}
+use Rattle.demands.proofs.Sweeping.Sizes.{insert-always-finds}
+use Rattle.demands.proofs.Requests.Accepted.{Inserts, insert-accepted, Deletes, delete-accepted}
 use Rattle.shares.specs.declared.Shape.{Shape}
 use Rattle.shares.specs.Rows.{sharesAt}
 use Rattle.seats.specs.Bounds.{Indexed}

@@ -24,17 +24,17 @@ use Rattle.rules.specs.Shares.{Shares, capacity}
 use Rattle.rules.specs.Placing.{Room, home, putIn, chosen, insertLevel}
 use Rattle.rules.specs.Readings.{Smallest}
 use Rattle.rules.specs.Calls.{roomOf}
-use Rattle.rules.proofs.Sharing.Climb.{climb-is}
-use Rattle.rules.proofs.Sweeping.Sizes.{insert-always-finds}
-use Rattle.rules.proofs.Requests.OutcomeCases.{outcome-insert-zero, outcome-insert-present, outcome-insert-full, insert-shifted, insert-swept}
+use Rattle.demands.proofs.Sharing.Climb.{climb-is}
+use Rattle.demands.proofs.Sweeping.Sizes.{insert-always-finds}
+use Rattle.demands.proofs.Requests.OutcomeCases.{outcome-insert-zero, outcome-insert-present, outcome-insert-full, insert-shifted, insert-swept}
 use Rattle.shares.specs.declared.Shape.{Shape}
 use Rattle.shares.specs.Rows.{sharesAt}
 use Rattle.seeking.specs.declared.Spot.{Spot}
 use Rattle.seats.specs.Bounds.{Indexed}
 use Rattle.seeking.specs.Spots.{Spotted}
-use Rattle.aims.specs.declared.Climb.{Climb}
+use Rattle.climbs.specs.declared.Climb.{Climb}
+use Rattle.climbs.specs.Climbs.{Climbed}
 use Rattle.aims.specs.declared.Aim.{Aim}
-use Rattle.aims.specs.Climbs.{Climbed}
 use Rattle.aims.specs.Aims.{Stands, refusedAim, Aimed}
 use Rattle.aims.proofs.Standing.{lawful-stands, good-stands, shows-stands, segments-stand, keys-stand, right-stands}
 use Rattle.aims.proofs.Places.{some-segments, place-in, place-held, place-at, place-rising}

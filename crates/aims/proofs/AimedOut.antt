@@ -22,17 +22,17 @@ use Rattle.rules.specs.declared.Request.the-variants.{Delete}
 use Rattle.rules.specs.Shares.{Shares}
 use Rattle.rules.specs.Placing.{Room, cutFrom, chosen, deleteLevel}
 use Rattle.rules.specs.Calls.{roomOf}
-use Rattle.rules.proofs.Sharing.Climb.{climb-is}
-use Rattle.rules.proofs.Sweeping.SweptWindow.{length-cut-in}
-use Rattle.rules.proofs.Requests.OutcomeCases.{outcome-delete-zero, outcome-delete-absent, delete-stays, delete-swept}
+use Rattle.demands.proofs.Sharing.Climb.{climb-is}
+use Rattle.demands.proofs.Sweeping.SweptWindow.{length-cut-in}
+use Rattle.demands.proofs.Requests.OutcomeCases.{outcome-delete-zero, outcome-delete-absent, delete-stays, delete-swept}
 use Rattle.shares.specs.declared.Shape.{Shape}
 use Rattle.shares.specs.Rows.{sharesAt}
 use Rattle.seeking.specs.declared.Spot.{Spot}
 use Rattle.seats.specs.Bounds.{Indexed}
 use Rattle.seeking.specs.Spots.{Spotted}
-use Rattle.aims.specs.declared.Climb.{Climb}
+use Rattle.climbs.specs.declared.Climb.{Climb}
+use Rattle.climbs.specs.Climbs.{Climbed}
 use Rattle.aims.specs.declared.Aim.{Aim}
-use Rattle.aims.specs.Climbs.{Climbed}
 use Rattle.aims.specs.Aims.{Stands, refusedAim, levelAt, Aimed}
 use Rattle.aims.proofs.Standing.{shows-stands, segments-stand, right-stands}
 use Rattle.aims.proofs.Places.{place-held, place-at, place-rising}

@@ -17,7 +17,7 @@ use Rattle.rules.specs.Refusals.{refusalNumber, verdictNumber}
 use Rattle.rules.specs.Shares.{Shares}
 use Rattle.rules.specs.Placing.{Room, Outcome, refusedBy, outcome}
 use Rattle.rules.specs.Calls.{roomOf}
-use Rattle.rules.proofs.Refusals.Told.{refusal-some}
+use Rattle.demands.proofs.Refusals.Told.{refusal-some}
 use Rattle.shares.specs.declared.Shape.{Shape}
 use Rattle.shares.specs.Rows.{sharesAt}
 use Rattle.seeking.specs.declared.Spot.{Spot}

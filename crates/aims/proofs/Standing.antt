@@ -22,12 +22,12 @@ use Rattle.rules.specs.Checks.{checkList}
 use Rattle.rules.specs.Calls.{roomOf}
 use Rattle.rules.proofs.Sharing.Table.{lawful}
 use Rattle.rules.proofs.Sharing.Profiles.{profile-named}
-use Rattle.rules.proofs.Requests.StaysGood.{Good}
-use Rattle.rules.proofs.Requests.Checked.{Passed, passed, list-passes, checked, keys-shown, forecast-shown}
-use Rattle.rules.proofs.Requests.Shown.{shows-passed}
+use Rattle.demands.proofs.Requests.StaysGood.{Good}
+use Rattle.demands.proofs.Requests.Checked.{Passed, passed, list-passes, checked, keys-shown, forecast-shown}
+use Rattle.demands.proofs.Requests.Shown.{shows-passed}
 use Rattle.shares.specs.declared.Shape.{Shape}
 use Rattle.shares.specs.Rows.{sharesAt, Fetched}
-use Rattle.aims.specs.Climbs.{Tabled}
+use Rattle.climbs.specs.Climbs.{Tabled}
 use Rattle.aims.specs.Aims.{Known, Stands}
 
 module _ {slots : List ℕ} {F : Forecast} {k : Shape} {n : ℕ} (s : Stands slots F k n) where

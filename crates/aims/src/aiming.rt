@@ -6,7 +6,6 @@ ghost use Rattle.shares.specs.Rows.{sharesAt};
 ghost use Rattle.rules.specs.Calls.{roomOf};
 ghost use Rattle.aims.specs.Aims.{Known, Stands, refusedAim, Aimed};
 use crate::Aim;
-use crate::climbing;
 use rules::Refusal;
 use rules::Request;
 use rules::Verdict;
@@ -48,13 +47,12 @@ fn aim_in(list: &[u64], table: &[usize], bounds: &[u64], shape: Shape, key: u64,
     let held = place.held;
     let at = place.at;
     let segment = place.segment;
-    let before = spot.before;
     if held < shape.high {
         return Aim {
             verdict: Verdict::Accepted,
             grows: true,
             key,
-            before,
+            before: spot.before,
             segment,
             at,
             held,
@@ -62,12 +60,12 @@ fn aim_in(list: &[u64], table: &[usize], bounds: &[u64], shape: Shape, key: u64,
             moves: held - at + 1,
         };
     }
-    let found = climbing::climb(table, shape, segment, 1, 0);
+    let found = climbs::climbing::climb(table, shape, segment, 1, 0);
     Aim {
         verdict: Verdict::Accepted,
         grows: true,
         key,
-        before,
+        before: spot.before,
         segment,
         at,
         held,
@@ -100,7 +98,7 @@ fn aim_out(
     let at = place.at;
     let segment = place.segment;
     if held <= shape.low {
-        let found = climbing::climb(table, shape, segment, 0, 1);
+        let found = climbs::climbing::climb(table, shape, segment, 0, 1);
         if found.level != 0 {
             return Aim {
                 verdict: Verdict::Accepted,

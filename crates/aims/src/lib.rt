@@ -1,14 +1,7 @@
 // What a request comes to, decided before anything is written.
 pub mod aiming;
-pub mod climbing;
 
 use rules::Verdict;
-
-// The level of the window to sweep, 0 for none, and the keys in it.
-pub struct Climb {
-    pub level: usize,
-    pub keys: usize,
-}
 
 // What a request comes to: refused, or accepted, and then whether a key is put in or taken out, which, the key before it, its segment and its
 // place there, the keys held there, the level of the window to sweep (0 for none), and the moves.

@@ -6,10 +6,10 @@ use Rattle.rules.specs.Profiles.{numberOf, most}
 use Rattle.rules.specs.Shares.{shares}
 use Rattle.rules.specs.Placing.{Answer}
 use Rattle.rules.specs.Looking.{Found}
-use Rattle.rules.specs.PlainSet as set
-use Rattle.rules.specs.Demand2.{Holds, Held, told, after, allTold, afterAll, made, ruledAll, ruledAllCards, emptyRoom, moves, allMoves, IsRoom}
-use Rattle.rules.proofs.Demand2.Answered.{sequence-answered}
-use Rattle.rules.proofs.Demand2.Ruled.{sequence-ruled}
+use Rattle.demands.specs.PlainSet as set
+use Rattle.demands.specs.Demand2.{Holds, Held, told, after, allTold, afterAll, made, ruledAll, ruledAllCards, emptyRoom, moves, allMoves, IsRoom}
+use Rattle.demands.proofs.Demand2.Answered.{sequence-answered}
+use Rattle.demands.proofs.Demand2.Ruled.{sequence-ruled}
 use Rattle.answers.specs.Chains.{held, Call, inserted, deleted, lookedUp, scanned, Chain, none, next, Chained}
 
 -- what a call tells, reports and leaves

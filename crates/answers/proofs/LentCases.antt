@@ -23,10 +23,10 @@ use Rattle.rules.specs.Placing.{sweep, chosen, settled, insertLevel, insertKey,
 use Rattle.rules.specs.Checks.{checkCards, thenForecast, thenTable, check}
 use Rattle.rules.specs.Calls.{request}
 use Rattle.rules.specs.Sums.{upFrom, pair}
-use Rattle.rules.specs.History.{Event, deletes}
-use Rattle.rules.specs.Demand3.{SweptAgain, counting}
-use Rattle.rules.specs.Demand3Lent.{LentAsk, Change, Lookup, Scan, lentEvents}
-use Rattle.rules.proofs.Demand3.AgainCases.{AgainCase, grows, shrinks}
+use Rattle.demands.specs.History.{Event, deletes}
+use Rattle.demands.specs.Demand3.{SweptAgain, counting}
+use Rattle.demands.specs.Demand3Lent.{LentAsk, Change, Lookup, Scan, lentEvents}
+use Rattle.demands.proofs.Demand3.AgainCases.{AgainCase, grows, shrinks}
 
 -- the table of a list of height 1 with a and b keys in its segments
 abbrev beside : ℕ → ℕ → List ℕ

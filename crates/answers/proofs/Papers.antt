@@ -7,7 +7,7 @@ use Rattle.rules.specs.declared.Verdict.the-variants.{Refused, Accepted}
 use Rattle.rules.specs.Refusals.{verdictNumber}
 use Rattle.rules.specs.Placing.{Answer}
 use Rattle.rules.specs.Looking.{Found}
-use Rattle.rules.proofs.Refusals.Told.{verdict-told}
+use Rattle.demands.proofs.Refusals.Told.{verdict-told}
 use Rattle.answers.specs.declared.MakeAnswer.{MakeAnswer}
 use Rattle.answers.specs.declared.CheckAnswer.{CheckAnswer}
 use Rattle.answers.specs.declared.LookupAnswer.{LookupAnswer}

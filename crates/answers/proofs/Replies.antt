@@ -19,8 +19,8 @@ use Rattle.rules.specs.Lent.{Lent, lend}
 use Rattle.rules.specs.Checks.{checkRead}
 use Rattle.rules.specs.Looking.{notFound, lookedUp, Scanned}
 use Rattle.rules.specs.Calls.{notMade, make}
-use Rattle.rules.proofs.Refusals.Told.{refusal-some}
-use Rattle.rules.proofs.Refusals.CheckCases.{scan-refused}
+use Rattle.demands.proofs.Refusals.Told.{refusal-some}
+use Rattle.demands.proofs.Refusals.CheckCases.{scan-refused}
 use Rattle.answers.specs.declared.ScanAnswer.{ScanAnswer}
 use Rattle.answers.specs.Admits.{ScanAdmits}
 

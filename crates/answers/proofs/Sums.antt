@@ -19,10 +19,10 @@ use Rattle.rules.specs.Lent.{Lent, cardsOf}
 use Rattle.rules.specs.Checks.{checkCards, checkRead, check}
 use Rattle.rules.specs.Looking.{notFound, Scanned, scanned}
 use Rattle.rules.specs.Calls.{Made, Called, request, unchanged, scan}
-use Rattle.rules.proofs.Requests.Checked.{passed, keys-shown}
-use Rattle.rules.proofs.Requests.Tabled.{read-passed}
-use Rattle.rules.proofs.Requests.SingleCalls.{request-unchecked}
-use Rattle.rules.proofs.Sets.SetScan.{scanned-number, scan-none}
+use Rattle.demands.proofs.Requests.Checked.{passed, keys-shown}
+use Rattle.demands.proofs.Requests.Tabled.{read-passed}
+use Rattle.demands.proofs.Requests.SingleCalls.{request-unchecked}
+use Rattle.demands.proofs.Sets.SetScan.{scanned-number, scan-none}
 use Rattle.answers.specs.declared.MakeAnswer.{MakeAnswer}
 use Rattle.answers.specs.declared.MakeReply.{MakeReply}
 use Rattle.answers.specs.declared.CheckAnswer.{CheckAnswer}
@@ -34,7 +34,7 @@ use Rattle.answers.specs.declared.DeleteAnswer.{DeleteAnswer}
 use Rattle.answers.specs.declared.DeleteReply.{DeleteReply}
 use Rattle.answers.specs.Answers.{scanPaper}
 use Rattle.answers.specs.Admits.{MakeAdmits, CheckAdmits, LookupAdmits, ScanAdmits, InsertAdmits, DeleteAdmits}
-use Rattle.rules.proofs.Refusals.CheckCases.{wrong-length, read-first, check-first, lookup-refused, scan-passed}
+use Rattle.demands.proofs.Refusals.CheckCases.{wrong-length, read-first, check-first, lookup-refused, scan-passed}
 use Rattle.answers.proofs.Replies.{make-refused, refused-admits}
 use Rattle.answers.proofs.Papers.{make-told, check-told, lookup-told, scan-told, insert-told, delete-told}
 use Rattle.answers.proofs.OneOutcome.{scan-one}

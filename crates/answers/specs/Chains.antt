@@ -9,9 +9,9 @@ use Rattle.forecast.specs.declared.Forecast.{Forecast}
 use Rattle.rules.specs.declared.Profile.{Profile}
 use Rattle.rules.specs.Profiles.{numberOf, most, fewest}
 use Rattle.rules.specs.Shares.{shares}
-use Rattle.rules.specs.PlainSet as set
+use Rattle.demands.specs.PlainSet as set
 use Rattle.rules.specs.Lent.{Lent}
-use Rattle.rules.specs.Demand2.{Holds, Held, ruledAll, allRuledMoves, ruledAllCards, emptyRoom, IsRoom}
+use Rattle.demands.specs.Demand2.{Holds, Held, ruledAll, allRuledMoves, ruledAllCards, emptyRoom, IsRoom}
 use Rattle.answers.specs.declared.MakeReply.{MakeReply}
 use Rattle.answers.specs.declared.LookupAnswer.{LookupAnswer}
 use Rattle.answers.specs.declared.ScanAnswer.{ScanAnswer}

@@ -28,15 +28,15 @@ use Rattle.rules.specs.Lent.{Lent, cardsOf}
 use Rattle.rules.specs.Checks.{sharesOf, checkBoth, check}
 use Rattle.rules.specs.Calls.{roomOf, Called, unchanged, request}
 use Rattle.rules.specs.Runs.{asking, recordsOf}
-use Rattle.rules.specs.Demand2.{AsRuled}
-use Rattle.rules.proofs.Refusals.Told.{refusal-some}
-use Rattle.rules.proofs.Sweeping.Settled.{keys-settled}
-use Rattle.rules.proofs.Requests.Accepted.{settled-sparse, Deletes, delete-accepted, refused-is}
-use Rattle.rules.proofs.Requests.Checked.{checked}
-use Rattle.rules.proofs.Requests.MoveBound.{moves-bound}
-use Rattle.rules.proofs.Requests.Tabled.{room-passes}
-use Rattle.rules.proofs.Requests.SingleCalls.{lentOutcome, request-unchecked}
-use Rattle.rules.proofs.Demand2.Ruled.{request-ruled}
+use Rattle.demands.specs.Demand2.{AsRuled}
+use Rattle.demands.proofs.Refusals.Told.{refusal-some}
+use Rattle.demands.proofs.Sweeping.Settled.{keys-settled}
+use Rattle.demands.proofs.Requests.Accepted.{settled-sparse, Deletes, delete-accepted, refused-is}
+use Rattle.demands.proofs.Requests.Checked.{checked}
+use Rattle.demands.proofs.Requests.MoveBound.{moves-bound}
+use Rattle.demands.proofs.Requests.Tabled.{room-passes}
+use Rattle.demands.proofs.Requests.SingleCalls.{lentOutcome, request-unchecked}
+use Rattle.demands.proofs.Demand2.Ruled.{request-ruled}
 use Rattle.records.specs.Asked.{asked, sizeFor, cardFor}
 use Rattle.records.proofs.Single.{SingleRun, single-run}
 use Rattle.steps.specs.declared.Worked.{Worked}

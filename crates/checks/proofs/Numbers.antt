@@ -14,7 +14,7 @@ use Rattle.rules.specs.declared.Refusal.{Refusal}
 use Rattle.rules.specs.declared.Verdict.{Verdict}
 use Rattle.rules.specs.declared.Verdict.the-variants.{Refused, Accepted}
 use Rattle.rules.specs.Refusals.{refusalNumber, verdictNumber}
-use Rattle.rules.proofs.Refusals.Told.{refusal-some}
+use Rattle.demands.proofs.Refusals.Told.{refusal-some}
 use Rattle.shares.specs.declared.Shape.{Shape}
 use Rattle.shares.specs.Rows.{sharesAt, Fetched}
 use Rattle.checks.specs.declared.Listing.{Listing}

@@ -14,16 +14,16 @@ use Rattle.slots.proofs.Windows.{pow-pos}
 use Rattle.slots.proofs.Render.{sizes-segments}
 use Rattle.levels.specs.Tables.{tableOf, same}
 use Rattle.levels.proofs.Same.{same→eq}
-use Rattle.tables.specs.Kept.{Answers}
+use Rattle.judging.specs.Answers.{Answers}
 use Rattle.forecast.specs.declared.Forecast.{Forecast}
 use Rattle.rules.specs.declared.Verdict.the-variants.{Accepted}
 use Rattle.rules.specs.declared.Refusal.the-variants.{WrongTable}
 use Rattle.rules.specs.Refusals.{verdictNumber}
 use Rattle.rules.specs.Lent.{Lent, lend, rightTable}
 use Rattle.rules.specs.Checks.{checkCards, thenForecast, thenTable, checkRead, check, checkList}
-use Rattle.rules.proofs.Requests.Checked.{Passed, passed, proper-segments, forecast-passed}
-use Rattle.rules.proofs.Requests.CardsChecked.{cards-tested}
-use Rattle.rules.proofs.Requests.Tabled.{table-wrong, table-passes}
+use Rattle.demands.proofs.Requests.Checked.{Passed, passed, proper-segments, forecast-passed}
+use Rattle.demands.proofs.Requests.CardsChecked.{cards-tested}
+use Rattle.demands.proofs.Requests.Tabled.{table-wrong, table-passes}
 use Rattle.checks.specs.declared.Listing.{Listing}
 use Rattle.checks.specs.Listings.{refusing, Looked, ReadLooked, LentLooked, Counting}
 use Rattle.checks.proofs.Numbers.{looked-refused}

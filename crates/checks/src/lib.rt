@@ -99,7 +99,7 @@ fn then_table(listing: Listing, table: &[usize], counts: &[usize], n: usize) -> 
     if let Verdict::Refused(_) = verdict {
         return listing;
     }
-    if tables::checking::is_right(table, counts, n) {
+    if judging::is_right(table, counts, n) {
         return listing;
     }
     refuse(Refusal::WrongTable)

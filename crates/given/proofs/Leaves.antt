@@ -18,11 +18,11 @@ use Rattle.rules.specs.Runs.{one}
 use Rattle.rules.specs.Checks as checks
 use Rattle.rules.specs.Lent.{Lent, lend}
 use Rattle.rules.specs.Calls as rules
-use Rattle.rules.specs.Rows.{Row, Tells, makeRows, readRows, lookupRows, insertRows, deleteRows}
-use Rattle.rules.proofs.Refusals.Numbers as below
-use Rattle.rules.proofs.Refusals.Refused.{request-refused, lookup-refused, scan-refused, make-refused}
-use Rattle.rules.proofs.Running.Runs.{run-refused}
-use Rattle.rules.proofs.Running.Singly as singly
+use Rattle.demands.specs.Rows.{Row, Tells, makeRows, readRows, lookupRows, insertRows, deleteRows}
+use Rattle.demands.proofs.Refusals.Numbers as below
+use Rattle.demands.proofs.Refusals.Refused.{request-refused, lookup-refused, scan-refused, make-refused}
+use Rattle.demands.proofs.Running.Runs.{run-refused}
+use Rattle.demands.proofs.Running.Singly as singly
 use Rattle.words.specs.Words.{cellWords, forecastIn, forecastWords}
 use Rattle.words.specs.Totals.{totalsIn, totalsWords}
 use Rattle.given.specs.Calls.{Given, sized, notForecast, notTotals, short, over, leftBy, replyWords, make, lookup, insert, delete, scan, run}

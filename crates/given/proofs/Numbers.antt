@@ -11,11 +11,11 @@ use Rattle.lists.proofs.Tests.{double-not, neqb→ne}
 use Rattle.rules.specs.Checks as checks
 use Rattle.rules.specs.Lent.{Lent, lend}
 use Rattle.rules.specs.Calls as rules
-use Rattle.rules.specs.Rows.{Row, Tells, makeRows, readRows, bothRows, lookupRows, insertRows, deleteRows, stopRows, runRows}
-use Rattle.rules.proofs.Refusals.RowsInOrder.{Decides, tells-if, tells-after}
-use Rattle.rules.proofs.Refusals.Numbers as below
-use Rattle.rules.proofs.Running.Runs.{run-refused}
-use Rattle.rules.proofs.Running.Singly as singly
+use Rattle.demands.specs.Rows.{Row, Tells, makeRows, readRows, bothRows, lookupRows, insertRows, deleteRows, stopRows, runRows}
+use Rattle.demands.proofs.Refusals.RowsInOrder.{Decides, tells-if, tells-after}
+use Rattle.demands.proofs.Refusals.Numbers as below
+use Rattle.demands.proofs.Running.Runs.{run-refused}
+use Rattle.demands.proofs.Running.Singly as singly
 use Rattle.words.specs.Words.{forecastIn}
 use Rattle.words.specs.Totals.{totalsIn}
 use Rattle.given.specs.Calls.{Given, sized, notForecast, notTotals, short, make, check, lookup, insert, delete, scan, run}

@@ -6,7 +6,7 @@ use mathlib.Core.List.{List, [], _∷_}
 use lib.ListN.{length, replicate}
 use Rattle.rules.specs.Lent.{lend}
 use Rattle.rules.specs.Calls as rules
-use Rattle.rules.specs.Rows.{Row, Tells, makeRows, readRows, bothRows, lookupRows, insertRows, deleteRows, runRows}
+use Rattle.demands.specs.Rows.{Row, Tells, makeRows, readRows, bothRows, lookupRows, insertRows, deleteRows, runRows}
 use Rattle.words.specs.Words.{forecastIn}
 use Rattle.words.specs.Totals.{totalsIn}
 use Rattle.given.specs.Calls.{Given, over, make, check, lookup, insert, delete, scan, run}

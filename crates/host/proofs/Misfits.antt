@@ -5,7 +5,7 @@ use mathlib.Core.Bool.{Bool, true, _||_}
 use mathlib.Core.List.{List, [], _∷_}
 use borrow.Author.Tests.{lt-ltb}
 use lib.ListN.{length}
-use Rattle.given.specs.Calls.{make, check, lookup, insert, delete, scan, run, notForecast, notTotals, short, Gives}
+use Rattle.given.specs.Calls.{Given, sized, make, check, lookup, insert, delete, scan, run, notForecast, notTotals, short, Gives}
 use Rattle.given.proofs.Sizes.{misfit}
 
 module _ (profile : ℕ) (list cards table forecast : List ℕ) (r : Bool) (e : r ≡ notForecast forecast) (t : r ≡ true) where
@@ -40,3 +40,7 @@ pub run-misfit : (profile : ℕ) (list cards table forecast requests : List ℕ)
     → Gives (run profile list cards table forecast requests allowance totals reply) 100 (list ∷ cards ∷ table ∷ forecast ∷ totals ∷ reply ∷ [])
 unfolding run
 run-misfit profile list cards table forecast requests allowance totals reply r e t = misfit _ _ _ (sym e ∙ t)
+
+-- the same of a number that is shown to be the one for a size that does not fit
+pub numbered : {o : Given} {left : List (List ℕ)} (n : ℕ) → ((lent : List (List ℕ)) (o : Given) → n ≡ sized true lent o .number) → Gives o 100 left → Gives o n left
+numbered {o} {left} n is g = record { number = is left o ∙ g .number; slices = g .slices }

@@ -2,7 +2,6 @@
 ghost use mathlib.Core.List.{[], _∷_};
 ghost use Rattle.given.specs.Calls.{Gives};
 ghost use Rattle.given.specs.Calls as calls;
-use crate::MISFIT;
 
 // Makes a list, its cards, its table and its forecast empty.
 #[no_mangle]
@@ -16,7 +15,7 @@ pub extern "C" fn ff_make(
     ensures { λ r. ⌜ Gives (calls.make profile (now (list .entry)) (now (cards .entry)) (now (table .entry)) (now (forecast .entry))) r (now (list .exit) ∷ now (cards .exit) ∷ now (table .exit) ∷ now (forecast .exit) ∷ []) ⌝ }
 {
     if replies::sizes::no_forecast(forecast.len()) {
-        return MISFIT;
+        return replies::sizes::misfit();
     }
     stated::make(profile, list, cards, table, forecast)
 }
@@ -33,7 +32,7 @@ pub extern "C" fn ff_check(
     ensures { λ r. ⌜ Gives (calls.check profile (now (list .entry)) (now (cards .entry)) (now (table .entry)) (now (forecast .entry))) r [] ⌝ }
 {
     if replies::sizes::no_forecast(forecast.len()) {
-        return MISFIT;
+        return replies::sizes::misfit();
     }
     stated::check(profile, list, cards, table, forecast)
 }
@@ -51,7 +50,7 @@ pub extern "C" fn ff_lookup(
     ensures { λ r. ⌜ Gives (calls.lookup profile (now (list .entry)) (now (cards .entry)) (now (table .entry)) key (now (reply .entry))) r (now (reply .exit) ∷ []) ⌝ }
 {
     if reply.len() < 3 {
-        return MISFIT;
+        return replies::sizes::misfit();
     }
     stated::lookup(profile, list, cards, table, key, reply)
 }
@@ -71,7 +70,7 @@ pub extern "C" fn ff_scan(
     ensures { λ r. ⌜ Gives (calls.scan profile (now (list .entry)) (now (cards .entry)) (now (table .entry)) from (now (output .entry)) (now («output_cards» .entry)) (now (reply .entry))) r (now (output .exit) ∷ now («output_cards» .exit) ∷ now (reply .exit) ∷ []) ⌝ }
 {
     if reply.len() < 2 {
-        return MISFIT;
+        return replies::sizes::misfit();
     }
     stated::scan(
         profile,

@@ -2,7 +2,6 @@
 ghost use mathlib.Core.List.{[], _∷_};
 ghost use Rattle.given.specs.Calls.{Gives};
 ghost use Rattle.given.specs.Calls as calls;
-use crate::MISFIT;
 
 // Puts a new key in, with its card.
 #[no_mangle]
@@ -19,7 +18,7 @@ pub extern "C" fn ff_insert(
     ensures { λ r. ⌜ Gives (calls.insert profile (now (list .entry)) (now (cards .entry)) (now (table .entry)) (now (forecast .entry)) key card (now (reply .entry))) r (now (list .exit) ∷ now (cards .exit) ∷ now (table .exit) ∷ now (forecast .exit) ∷ now (reply .exit) ∷ []) ⌝ }
 {
     if replies::sizes::misfits(forecast.len(), reply.len(), 1) {
-        return MISFIT;
+        return replies::sizes::misfit();
     }
     worded::insert(profile, list, cards, table, forecast, key, card, reply)
 }
@@ -38,7 +37,7 @@ pub extern "C" fn ff_delete(
     ensures { λ r. ⌜ Gives (calls.delete profile (now (list .entry)) (now (cards .entry)) (now (table .entry)) (now (forecast .entry)) key (now (reply .entry))) r (now (list .exit) ∷ now (cards .exit) ∷ now (table .exit) ∷ now (forecast .exit) ∷ now (reply .exit) ∷ []) ⌝ }
 {
     if replies::sizes::misfits(forecast.len(), reply.len(), 2) {
-        return MISFIT;
+        return replies::sizes::misfit();
     }
     worded::delete(profile, list, cards, table, forecast, key, reply)
 }

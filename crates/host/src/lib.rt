@@ -2,6 +2,3 @@
 pub mod calls;
 pub mod changing;
 pub mod running;
-
-// What a call answers where the forecast, the totals or the reply has the wrong size.
-pub const MISFIT: u64 = 100;

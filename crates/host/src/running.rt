@@ -2,7 +2,6 @@
 ghost use mathlib.Core.List.{[], _∷_};
 ghost use Rattle.given.specs.Calls.{Gives};
 ghost use Rattle.given.specs.Calls as calls;
-use crate::MISFIT;
 
 // Works request records, within an allowance of moves.
 #[no_mangle]
@@ -20,9 +19,9 @@ pub extern "C" fn ff_run(
     ensures { λ r. ⌜ Gives (calls.run profile (now (list .entry)) (now (cards .entry)) (now (table .entry)) (now (forecast .entry)) (now (requests .entry)) allowance (now (totals .entry)) (now (reply .entry))) r (now (list .exit) ∷ now (cards .exit) ∷ now (table .exit) ∷ now (forecast .exit) ∷ now (totals .exit) ∷ now (reply .exit) ∷ []) ⌝ }
 {
     if replies::sizes::run_misfits(forecast.len(), totals.len(), reply.len()) {
-        return MISFIT;
+        return replies::sizes::misfit();
     }
-    worded::run(
+    totalled::run(
         profile,
         list,
         cards,

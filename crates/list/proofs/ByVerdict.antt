@@ -15,9 +15,9 @@ use Rattle.rules.specs.Placing.{Answer, refused}
 use Rattle.rules.specs.Lent.{Lent}
 use Rattle.rules.specs.Checks.{sharesOf, check}
 use Rattle.rules.specs.Calls.{roomOf, Called, request}
-use Rattle.rules.proofs.Refusals.Refused.{request-refused}
-use Rattle.rules.proofs.Refusals.Told.{refusal-some}
-use Rattle.rules.proofs.Requests.SingleCalls.{lentOutcome}
+use Rattle.demands.proofs.Refusals.Refused.{request-refused}
+use Rattle.demands.proofs.Refusals.Told.{refusal-some}
+use Rattle.demands.proofs.Requests.SingleCalls.{lentOutcome}
 use Rattle.asking.specs.declared.Reply.{Reply}
 use Rattle.asking.specs.Requested.{answerOf}
 use Rattle.asking.proofs.OneRecord.{outcome-dense}

@@ -23,12 +23,12 @@ use Rattle.rules.specs.Lent.{Lent, cardsOf}
 use Rattle.rules.specs.Checks.{checkRead}
 use Rattle.rules.specs.Looking.{Scanned, scanned}
 use Rattle.rules.specs.Calls.{scan}
-use Rattle.rules.proofs.Cards.Beside.{beside-alone}
-use Rattle.rules.proofs.Requests.Shown.{shows-passed}
-use Rattle.rules.proofs.Requests.Tabled.{read-passed}
-use Rattle.rules.proofs.Refusals.CheckCases.{scan-passed}
-use Rattle.rules.proofs.Sets.SetLaws.{above-beyond}
-use Rattle.rules.proofs.Sets.SetScan.{page, scanned-number, scanned-written, scanned-more, scanned-output, scanned-cards}
+use Rattle.demands.proofs.Cards.Beside.{beside-alone}
+use Rattle.demands.proofs.Requests.Shown.{shows-passed}
+use Rattle.demands.proofs.Requests.Tabled.{read-passed}
+use Rattle.demands.proofs.Refusals.CheckCases.{scan-passed}
+use Rattle.demands.proofs.Sets.SetLaws.{above-beyond}
+use Rattle.demands.proofs.Sets.SetScan.{page, scanned-number, scanned-written, scanned-more, scanned-output, scanned-cards}
 use Rattle.answers.specs.declared.ScanAnswer.{ScanAnswer}
 use Rattle.answers.specs.Answers.{scanPaper}
 use Rattle.answers.specs.Admits.{ScanAdmits}

@@ -21,11 +21,11 @@ use Rattle.seeking.proofs.Spots.{spot-is}
 use Rattle.rules.specs.Cards.{cardIn}
 use Rattle.rules.specs.Lent.{Lent, cardsOf}
 use Rattle.rules.specs.Checks.{checkRead}
-use Rattle.rules.proofs.Cards.Beside.{beside-map}
-use Rattle.rules.proofs.Cards.Own.{card-at}
-use Rattle.rules.proofs.Requests.Checked.{Passed, passed}
-use Rattle.rules.proofs.Requests.Shown.{shows-passed}
-use Rattle.rules.proofs.Requests.Tabled.{read-passed}
+use Rattle.demands.proofs.Cards.Beside.{beside-map}
+use Rattle.demands.proofs.Cards.Own.{card-at}
+use Rattle.demands.proofs.Requests.Checked.{Passed, passed}
+use Rattle.demands.proofs.Requests.Shown.{shows-passed}
+use Rattle.demands.proofs.Requests.Tabled.{read-passed}
 
 module _ (profile : ℕ) (L : Lent) (e : checkRead profile L ≡ 0) where
   abbrev ss : Segments

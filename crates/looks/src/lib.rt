@@ -22,7 +22,7 @@ pub fn look_up(list: &[u64], cards: &[u32], table: &[usize], key: u64) -> Lookup
     if key == 0 {
         return LookupAnswer::Refused(Refusal::KeyZero);
     }
-    let segment = tables::descending::seek(table, list, list.len() / 64, key);
+    let segment = descents::seek(table, list, list.len() / 64, key);
     let place = seeking::finding::place_in(list, 64 * segment, key);
     if list[place] == key {
         return LookupAnswer::Present(segment, cards[place]);
@@ -58,7 +58,7 @@ pub fn scan_from(
     requires { ⌜ ((profile : ℕ) × (checkRead profile (lend (now list) (now cards) (now table)) ≡ 0)) ⌝ }
     ensures { λ r. ⌜ ((profile : ℕ) → checkRead profile (lend (now (list .entry)) (now (cards .entry)) (now (table .entry))) ≡ 0 → ScanAdmits profile (lend (now (list .entry)) (now (cards .entry)) (now (table .entry))) from (now (output .entry)) (now («output_cards» .entry)) r (now (output .exit)) (now («output_cards» .exit))) ⌝ }
 {
-    let segment = tables::descending::seek(table, list, list.len() / 64, from);
+    let segment = descents::seek(table, list, list.len() / 64, from);
     let at = past(list, segment, from);
     let written = scans::write_keys(list, cards, table, segment, at, output, output_cards);
     if written.more {

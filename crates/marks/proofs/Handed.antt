@@ -14,9 +14,9 @@ use Rattle.forecast.specs.declared.Forecast.{Forecast}
 use Rattle.forecast.specs.Cells.{usedCells}
 use Rattle.rules.specs.Shares.{Shares, cellsOf}
 use Rattle.rules.specs.Placing.{Room, home}
-use Rattle.rules.proofs.Requests.StaysGood.{Good}
-use Rattle.rules.proofs.Sharing.Weighing.{noted-good, dropped-good, fitting-noted, fitting-dropped}
-use Rattle.rules.proofs.Sweeping.Unswept.{noted-placed, dropped-placed}
+use Rattle.demands.proofs.Requests.StaysGood.{Good}
+use Rattle.demands.proofs.Sharing.Weighing.{noted-good, dropped-good, fitting-noted, fitting-dropped}
+use Rattle.demands.proofs.Sweeping.Unswept.{noted-placed, dropped-placed}
 use Rattle.marks.specs.declared.Window.{Window}
 use Rattle.marks.specs.Marking.{Aims, Marking}
 

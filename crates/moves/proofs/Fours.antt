@@ -8,8 +8,7 @@ use lib.ListN.{length, take, drop, length-take, length-drop}
 use lib.Seq.{paste, length-paste-head, length-take-le, take-at, take-append-le, take-append-add, drop-append-le, drop-append-add, take-take, drop-drop, take-add}
 use Rattle.moves.specs.Moves.{moved}
 use Rattle.moves.proofs.Moving.{Right, right-all}
-use Rattle.moves.proofs.Gaps.{take-drop}
-use Rattle.moves.proofs.Fronts.{drop-past, part-alike}
+use Rattle.moves.proofs.Fronts.{drop-past, part-alike, take-drop}
 
 module _ {A : Type 0} where
   -- FROM s: i slots of s from a on are copied to to, and then the k from e on

@@ -1,11 +1,11 @@
--- A list behind another front, and the parts of two lists that begin alike.
+-- A list behind another front, the parts of two lists that begin alike, and a front without its first.
 use mathlib.Core.Path.{_≡_, sym, ap, _∙_, subst}
 use Prim.Native.Nat.{ℕ, zero, suc, _+_, _-_, _≤_}
 use native.Mathlib.Nat.{suc-add, add-sub-of-le}
 use native.Mathlib.Omega.{arith}
 use mathlib.Core.List.{List, [], _∷_, _++_}
 use lib.ListN.{length, take, drop}
-use lib.Seq.{drop-at, take-take, drop-drop, take-nil}
+use lib.Seq.{drop-at, take-take, drop-drop, take-nil, take-add, length-take-le}
 
 module _ {A : Type 0} where
   -- what is left of l past what stands in front of it
@@ -25,3 +25,9 @@ module _ {A : Type 0} where
       part-of at c l
       ∙ ap (drop at) (sym (take-take (at + c) n l h) ∙ ap (take (at + c)) e ∙ take-take (at + c) n k h)
       ∙ sym (part-of at c k)
+
+  -- what a front of n has from index a on
+  pub take-drop : (a n : ℕ) (l : List A) → a ≤ n → a ≤ length l → take (n - a) (drop a l) ≡ drop a (take n l)
+  take-drop a n l h k =
+      sym (ap (drop a) (ap (λ (m : ℕ). take m l) (sym (add-sub-of-le h)) ∙ take-add a (n - a) l)
+      ∙ drop-at (take a l) (take (n - a) (drop a l)) a (length-take-le a l k))

@@ -1,5 +1,3 @@
 pub mod Moving
 pub mod Fronts
-pub mod Gaps
 pub mod Fours
-pub mod Natural

@@ -1,8 +1,8 @@
 // Movement of slots and of the cards beside them, by positions and counts alone.
 ghost use mathlib.Core.Path.{_≡_};
-ghost use Prim.Native.Nat.{_+_, _≤_, _<_};
+ghost use Prim.Native.Nat.{_+_, _≤_};
 ghost use lib.ListN.{length};
-ghost use Rattle.moves.specs.Moves.{moved, cleared, opened, closed};
+ghost use Rattle.moves.specs.Moves.{moved};
 
 // As move_left, one slot at a time.
 fn few_left(part: &mut [u64], cards: &mut [u32], from: usize, to: usize, count: usize)
@@ -81,43 +81,4 @@ pub fn move_right(part: &mut [u64], cards: &mut [u32], from: usize, to: usize, c
     }
     fours::put_four(part, to, four);
     fours::put_cards(cards, to, theirs);
-}
-
-// Writes 0 from index `a` up to index `e`, in slots and cards.
-pub fn clear(part: &mut [u64], cards: &mut [u32], a: usize, e: usize)
-    requires { ⌜ (a ≤ e) × (e ≤ length (now part)) ⌝ }
-    requires { ⌜ length (now cards) ≡ length (now part) ⌝ }
-    ensures slots { λ _. ⌜ now (part .exit) ≡ cleared a e 0 (now (part .entry)) ⌝ }
-    ensures cards { λ _. ⌜ now (cards .exit) ≡ cleared a e 0 (now (cards .entry)) ⌝ }
-{
-    let mut i = a;
-    while i < e {
-        part[i] = 0;
-        cards[i] = 0;
-        i += 1;
-    }
-}
-
-// In a part whose first `n` slots are keys: `v` put in front of key `at`, with its card.
-pub fn open_gap(part: &mut [u64], cards: &mut [u32], n: usize, at: usize, v: u64, card: u32)
-    requires { ⌜ (at ≤ n) × (n < length (now part)) ⌝ }
-    requires { ⌜ length (now cards) ≡ length (now part) ⌝ }
-    ensures slots { λ _. ⌜ now (part .exit) ≡ opened n at v (now (part .entry)) ⌝ }
-    ensures cards { λ _. ⌜ now (cards .exit) ≡ opened n at card (now (cards .entry)) ⌝ }
-{
-    move_right(part, cards, at, at + 1, n - at);
-    part[at] = v;
-    cards[at] = card;
-}
-
-// In a part whose first `n` slots are keys: key `at` taken out, with its card.
-pub fn close_gap(part: &mut [u64], cards: &mut [u32], n: usize, at: usize)
-    requires { ⌜ (at < n) × (n ≤ length (now part)) ⌝ }
-    requires { ⌜ length (now cards) ≡ length (now part) ⌝ }
-    ensures slots { λ _. ⌜ now (part .exit) ≡ closed 0 n at (now (part .entry)) ⌝ }
-    ensures cards { λ _. ⌜ now (cards .exit) ≡ closed 0 n at (now (cards .entry)) ⌝ }
-{
-    move_left(part, cards, at + 1, at, n - at - 1);
-    part[n - 1] = 0;
-    cards[n - 1] = 0;
 }

@@ -15,8 +15,8 @@ use Rattle.rules.specs.Profiles.{numberOf}
 use Rattle.rules.specs.Cards.{cardsBeside}
 use Rattle.rules.specs.Lent.{Lent, cardsOf}
 use Rattle.rules.specs.Checks.{checkBoth, check}
-use Rattle.rules.proofs.Requests.Checked.{checked}
-use Rattle.rules.proofs.Requests.Tabled.{check-passed, room-passes}
+use Rattle.demands.proofs.Requests.Checked.{checked}
+use Rattle.demands.proofs.Requests.Tabled.{check-passed, room-passes}
 use Rattle.checks.specs.declared.Listing.{Listing}
 use Rattle.checks.specs.Listings.{LentLooked}
 use Rattle.aims.specs.Aims.{Stands}

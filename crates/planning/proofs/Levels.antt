@@ -11,7 +11,7 @@ use Rattle.slots.proofs.Windows.{double, pow-pos}
 use Rattle.rules.specs.Shares.{Shares}
 use Rattle.rules.specs.SharingOut.{leftShare, plan}
 use Rattle.rules.specs.Readings.{Limits}
-use Rattle.rules.proofs.Sharing.SharingOut.{inner}
+use Rattle.demands.proofs.Sharing.SharingOut.{inner}
 use Rattle.planning.specs.Plans.{Splits, Planned}
 use Rattle.stretches.proofs.Weighing.{first-part, other-part, length-stretch}
 use Rattle.planning.proofs.Ranges.{Ranged}

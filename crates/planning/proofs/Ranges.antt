@@ -9,7 +9,7 @@ use lib.ListN.{length}
 use Rattle.lists.specs.Lists.{total}
 use Rattle.rules.specs.Shares.{Shares}
 use Rattle.rules.specs.SharingOut.{formula6, least, leftShare}
-use Rattle.rules.proofs.Sharing.Splits.{share-even, share-least}
+use Rattle.demands.proofs.Sharing.Splits.{share-even, share-least}
 use Rattle.planning.specs.Plans.{Splits}
 use Rattle.stretches.specs.Tries.{Halves}
 

@@ -12,7 +12,7 @@ use Rattle.rules.specs.Placing.{Room, outcome}
 use Rattle.rules.specs.declared.Record.{Record}
 use Rattle.rules.specs.Cards.{cardsAfter}
 use Rattle.rules.specs.Runs.{asking, isBad, recordsOf, nothing, tallied, Ran, stopped, work, ran}
-use Rattle.rules.proofs.Running.RequestsWorked.{work-on, work-end}
+use Rattle.demands.proofs.Running.RequestsWorked.{work-on, work-end}
 use Rattle.records.specs.Asked.{asked}
 
 pub record SingleRun (S : Shares) (q : Request) (v : ℕ) (R : Room) (c : ℕ → ℕ) (r : Ran) : Type 0 where

@@ -1,7 +1,10 @@
-// Whether what a C program lends has the sizes that a call lists. Sizes are numbers of words.
+// Whether what a C program lends has the sizes that a call lists, and the number given where it has not. Sizes are numbers of words.
+ghost use Prim.Native.Nat.{ℕ};
 ghost use mathlib.Core.Path.{_≡_};
-ghost use mathlib.Core.Bool.{not, _||_};
+ghost use mathlib.Core.Bool.{true, not, _||_};
+ghost use mathlib.Core.List.{List};
 ghost use lib.Dec.{eqb, ltb};
+ghost use Rattle.given.specs.Calls.{Given, sized};
 
 // The words of a forecast, and of the totals.
 const FORECAST: usize = 37;
@@ -36,4 +39,13 @@ pub fn run_misfits(forecast: usize, totals: usize, reply: usize) -> bool
         return true;
     }
     reply < 4
+}
+
+// What a call answers where the forecast, the totals or the reply has the wrong size.
+const MISFIT: u64 = 100;
+
+pub fn misfit() -> u64
+    ensures { λ r. ⌜ ((lent : List (List ℕ)) (o : Given) → r ≡ sized true lent o .number) ⌝ }
+{
+    MISFIT
 }

@@ -1,11 +1,2 @@
 pub mod Sharing
-pub mod Cards
 pub mod Cases
-pub mod Sweeping
-pub mod Requests
-pub mod Demand3
-pub mod Sets
-pub mod Refusals
-pub mod Running
-pub mod Demand2
-pub mod Demands

@@ -1,7 +1,3 @@
--- The table of shares, the split by weights, sharing out, and the climb to a window.
+-- The table of shares, computed against its formulas, and the numbers of the profiles.
 pub mod Table
-pub mod SharingOut
-pub mod Splits
-pub mod Climb
-pub mod Weighing
 pub mod Profiles

@@ -9,14 +9,5 @@ pub mod Runs
 pub mod Lent
 pub mod Checks
 pub mod Calls
-pub mod Rows
-pub mod Demand1
-pub mod PlainSet
-pub mod Demand2
-pub mod Demand2Mixed
 pub mod Readings
-pub mod History
-pub mod Demand3
-pub mod Demand3Lent
 pub mod Sums
-pub mod Demands

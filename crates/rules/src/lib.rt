@@ -1,4 +1,4 @@
-// Document 01, and the requests of document 02 that are built, as definitions, in specs/, and their theorems, in proofs/. No code.
+// Document 01, and the requests of document 02 that are built, as definitions, in specs/, and computed cases of them, in proofs/. No code.
 
 // Which shares a list keeps to: document 01's, or those of document 02, (v). Outside it is a number, 1 or 2.
 pub enum Profile {

@@ -14,10 +14,10 @@ use Rattle.rules.specs.Lent.{Lent, cardsOf, rightTable, laid}
 use Rattle.rules.specs.Checks.{check}
 use Rattle.rules.specs.Calls.{Worked, stoppedAtOnce, worked, run}
 use Rattle.rules.specs.Runs.{added}
-use Rattle.rules.proofs.Requests.Checked.{checked, checked-known, table-render}
-use Rattle.rules.proofs.Requests.Tabled.{room-passes}
-use Rattle.rules.proofs.Running.Runs.{run-refused, run-checked}
-use Rattle.rules.proofs.Running.Singly.{good-ran}
+use Rattle.demands.proofs.Requests.Checked.{checked, checked-known, table-render}
+use Rattle.demands.proofs.Requests.Tabled.{room-passes}
+use Rattle.demands.proofs.Running.Runs.{run-refused, run-checked}
+use Rattle.demands.proofs.Running.Singly.{good-ran}
 use Rattle.steps.specs.declared.Worked as steps
 use Rattle.steps.specs.Works.{whole, Ends}
 use Rattle.opening.specs.Opens.{Refuses, Opens}

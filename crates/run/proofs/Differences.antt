@@ -10,7 +10,7 @@ use Rattle.rules.specs.declared.Totals.{Totals}
 use Rattle.rules.specs.Lent.{Lent, cardsOf}
 use Rattle.rules.specs.Checks.{check}
 use Rattle.rules.specs.Calls.{Worked, stoppedAtOnce, worked, run}
-use Rattle.rules.proofs.Running.Runs.{run-refused, run-checked}
+use Rattle.demands.proofs.Running.Runs.{run-refused, run-checked}
 use Rattle.run.specs.declared.Run.{Run}
 use Rattle.run.specs.Sums.{since}
 use Rattle.run.specs.Admits.{RunAdmits}

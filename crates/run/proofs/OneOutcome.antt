@@ -5,7 +5,7 @@ use Prim.Native.Nat.{ℕ}
 use Rattle.forecast.specs.declared.Forecast.{Forecast}
 use Rattle.rules.specs.declared.Totals.{Totals}
 use Rattle.rules.specs.Lent.{Lent}
-use Rattle.rules.proofs.Refusals.Told.{verdict-told}
+use Rattle.demands.proofs.Refusals.Told.{verdict-told}
 use Rattle.run.specs.declared.Run.{Run}
 use Rattle.run.specs.Admits.{RunAdmits}
 

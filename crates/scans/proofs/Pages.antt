@@ -8,7 +8,7 @@ use borrow.Author.Tests.{lt-ltb, le-ltb}
 use lib.ListN.{length, take, drop, length-append, length-drop, length-map}
 use lib.Seq.{paste, take-all, take-at, drop-at, take-append-le, drop-append-add, take-take, take-add, drop-drop, length-take-le}
 use Rattle.lists.proofs.Maps.{map-take}
-use Rattle.moves.proofs.Natural.{part-kept}
+use Rattle.gaps.proofs.Natural.{part-kept}
 use Rattle.scans.specs.declared.Written.{Written}
 use Rattle.scans.specs.Scans.{Wrote, cardsOver}
 

@@ -10,9 +10,9 @@ use Rattle.lists.proofs.Members.{at-mem}
 use Rattle.lists.proofs.Fill.{length-without, take-padded-all, drop-padded}
 use Rattle.slots.specs.Segments.{pad, render}
 use Rattle.slots.proofs.Carried.{inPart, put-part, in-segment}
-use Rattle.moves.specs.Moves.{opened, closed}
-use Rattle.moves.proofs.Gaps.{length-insertAt}
-use Rattle.moves.proofs.Natural.{opened-kept, closed-kept, part-kept, back-kept}
+use Rattle.gaps.specs.Gaps.{opened, closed}
+use Rattle.gaps.proofs.Gaps.{length-insertAt}
+use Rattle.gaps.proofs.Natural.{opened-kept, closed-kept, part-kept, back-kept}
 
 module _ {A : Type 0} where
   -- in the slots of one segment

@@ -13,7 +13,7 @@ use Rattle.lists.proofs.Members.{at-mem, mem-set}
 use Rattle.slots.specs.declared.Place.{Place}
 use Rattle.slots.specs.Segments.{Segments, keys, render}
 use Rattle.slots.specs.Keys.{Rising, member, put, cut}
-use Rattle.moves.specs.Moves.{opened, closed}
+use Rattle.gaps.specs.Gaps.{opened, closed}
 use Rattle.slots.specs.Shown.{Shows, seat, Located}
 use Rattle.slots.proofs.Rising.{put-rising, put-mem, length-put, cut-rising, cut-mem, length-cut}
 use Rattle.slots.proofs.Keys.{member→mem, not-member, rising-part, keys-put, keys-cut}

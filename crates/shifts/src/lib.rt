@@ -33,7 +33,7 @@ pub fn put_in(
     let at = place.at;
     let a = 64 * segment;
     let e = a + 64;
-    moves::open_gap(&mut list[a..e], &mut cards[a..e], held, at, key, card);
+    gaps::open_gap(&mut list[a..e], &mut cards[a..e], held, at, key, card);
     tables::keeping::add_one(table, n, segment);
 }
 
@@ -58,7 +58,7 @@ pub fn cut_out(
     let at = place.at;
     let a = 64 * segment;
     let e = a + 64;
-    moves::close_gap(&mut list[a..e], &mut cards[a..e], held, at);
+    gaps::close_gap(&mut list[a..e], &mut cards[a..e], held, at);
     tables::keeping::take_one(table, n, segment);
     if at == 0 {
         rebound(list, bounds, segment, segment + 1);

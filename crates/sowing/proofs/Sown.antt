@@ -12,7 +12,8 @@ use Rattle.lists.specs.Lists.{total, deal, insertAt, without}
 use Rattle.lists.proofs.Members.{at-mem}
 use Rattle.lists.proofs.Filtered.{only-length}
 use Rattle.lists.proofs.Fill.{length-without}
-use Rattle.moves.specs.Moves.{closed, Packed}
+use Rattle.moves.specs.Moves.{Packed}
+use Rattle.gaps.specs.Gaps.{closed}
 use Rattle.spreads.proofs.Packing.{total-all}
 use Rattle.slots.specs.Segments.{Segments, keys, segmentsOf, render}
 use Rattle.slots.specs.Keys.{changed}

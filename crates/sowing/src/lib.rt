@@ -31,6 +31,6 @@ pub fn sow(
         spreads::spread_in(window, cards, plan, m + 1, p, key, card);
         return;
     }
-    moves::close_gap(window, cards, m, p);
+    gaps::close_gap(window, cards, m, p);
     spreads::spread(window, cards, plan, m - 1);
 }

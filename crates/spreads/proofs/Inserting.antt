@@ -8,9 +8,10 @@ use mathlib.Core.List.{List, [], _∷_, _++_, append-assoc}
 use lib.ListN.{length, getD, set, take, drop, length-append, length-take, length-drop}
 use lib.Seq.{paste, set-split, take-at, drop-at, length-take-le, take-append-le, take-append-add, drop-append-le, take-take}
 use Rattle.lists.specs.Lists.{total, insertAt}
-use Rattle.moves.specs.Moves.{moved, cleared}
-use Rattle.moves.proofs.Gaps.{take-drop, length-insertAt}
-use Rattle.moves.proofs.Fronts.{part-alike}
+use Rattle.moves.specs.Moves.{moved}
+use Rattle.moves.proofs.Fronts.{part-alike, take-drop}
+use Rattle.gaps.specs.Gaps.{cleared}
+use Rattle.gaps.proofs.Gaps.{length-insertAt}
 use Rattle.spreads.proofs.Packing.{total-bound}
 use Rattle.spreads.proofs.Laying.{Laid, laid-front, laid-down}
 

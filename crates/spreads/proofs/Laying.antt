@@ -6,7 +6,8 @@ use mathlib.Core.List.{List, _++_, append-assoc, append-nil}
 use lib.ListN.{length, getD, take, drop, replicate, length-append, length-take, length-drop}
 use lib.Seq.{paste, drop-cons, take-at, drop-at, length-take-le, take-append-le, take-take, drop-drop, drop-length, take-all}
 use Rattle.lists.specs.Lists.{total, padded, deal}
-use Rattle.moves.specs.Moves.{moved, cleared}
+use Rattle.moves.specs.Moves.{moved}
+use Rattle.gaps.specs.Gaps.{cleared}
 use Rattle.slots.specs.Layout.{pad, render}
 use Rattle.moves.proofs.Fronts.{drop-past, part-alike}
 use Rattle.spreads.proofs.Packing.{total-bound, total-pred}

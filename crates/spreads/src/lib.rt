@@ -44,7 +44,7 @@ pub fn spread(window: &mut [u64], cards: &mut [u32], counts: &[usize], m: usize)
         let to = 64 * s;
         at -= c;
         moves::move_right(window, cards, at, to, c);
-        moves::clear(window, cards, to + c, to + 64);
+        gaps::clear(window, cards, to + c, to + 64);
     }
 }
 
@@ -105,6 +105,6 @@ pub fn spread_in(
         let to = 64 * s;
         at -= c;
         lay_in(window, cards, at, to, c, p, key, card);
-        moves::clear(window, cards, to + c, to + 64);
+        gaps::clear(window, cards, to + c, to + 64);
     }
 }

@@ -13,8 +13,8 @@ use Rattle.rules.specs.Shares.{Shares}
 use Rattle.rules.specs.Placing.{Room, outcome}
 use Rattle.rules.specs.Calls.{roomOf}
 use Rattle.rules.specs.Cards.{cardIn, cardsBeside, cardsAfter}
-use Rattle.rules.proofs.Cards.Beside.{in-gap, beside-map}
-use Rattle.rules.proofs.Requests.CardsKept.{beside-before, in-after}
+use Rattle.demands.proofs.Cards.Beside.{in-gap, beside-map}
+use Rattle.demands.proofs.Requests.CardsKept.{beside-before, in-after}
 use Rattle.shares.specs.declared.Shape.{Shape}
 use Rattle.shares.specs.Rows.{sharesAt}
 use Rattle.aims.specs.declared.Aim.{Aim}

@@ -32,11 +32,11 @@ use Rattle.rules.specs.Calls.{roomOf}
 use Rattle.rules.specs.Cards.{cardAt, cardsBeside, cardsAfter}
 use Rattle.rules.specs.Lent as given
 use Rattle.rules.specs.Runs.{asking, recordOf, isBad, recordsOf, nothing, one, Ran, stopped, ran, work, tallied}
-use Rattle.rules.proofs.Running.Records.{records-nil, records-from, single-record}
-use Rattle.rules.proofs.Running.RecordBytes.{size-some, size-fits}
-use Rattle.rules.proofs.Running.BadRecords.{not-bad}
-use Rattle.rules.proofs.Running.RequestsWorked.{work-end, work-bad, work-over, work-on}
-use Rattle.rules.proofs.Requests.Checked.{slots-shown, forecast-shown}
+use Rattle.demands.proofs.Running.Records.{records-nil, records-from, single-record}
+use Rattle.demands.proofs.Running.RecordBytes.{size-some, size-fits}
+use Rattle.demands.proofs.Running.BadRecords.{not-bad}
+use Rattle.demands.proofs.Running.RequestsWorked.{work-end, work-bad, work-over, work-on}
+use Rattle.demands.proofs.Requests.Checked.{slots-shown, forecast-shown}
 use Rattle.shares.specs.declared.Shape.{Shape}
 use Rattle.shares.specs.Rows.{sharesAt}
 use Rattle.seats.specs.Bounds.{Indexed}

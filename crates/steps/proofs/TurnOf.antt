@@ -28,10 +28,10 @@ use Rattle.rules.specs.Checks.{checkBoth}
 use Rattle.rules.specs.Calls.{roomOf}
 use Rattle.rules.specs.Runs.{isBad}
 use Rattle.rules.proofs.Sharing.Profiles.{profile-named, number-known}
-use Rattle.rules.proofs.Requests.Accepted.{refused-is, insert-accepts, delete-accepts, insert-accepted, delete-accepted}
-use Rattle.rules.proofs.Requests.Checked.{check-render, room-render, height-render}
-use Rattle.rules.proofs.Requests.StaysGood.{Good, good-next}
-use Rattle.rules.proofs.Requests.MoveBound.{length-insert, length-delete}
+use Rattle.demands.proofs.Requests.Accepted.{refused-is, insert-accepts, delete-accepts, insert-accepted, delete-accepted}
+use Rattle.demands.proofs.Requests.Checked.{check-render, room-render, height-render}
+use Rattle.demands.proofs.Requests.StaysGood.{Good, good-next}
+use Rattle.demands.proofs.Requests.MoveBound.{length-insert, length-delete}
 use Rattle.shares.specs.declared.Shape.{Shape}
 use Rattle.shares.specs.Rows.{sharesAt}
 use Rattle.seats.specs.Bounds.{Indexed}

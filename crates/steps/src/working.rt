@@ -39,11 +39,10 @@ pub fn work(
         let aim = aims::aiming::aim(list, table, bounds, shape, request, keys);
         let left = allowance - tally.moves;
         if tallies::halts(aim, left) {
-            let stop = tallies::within(aim, left);
             return Worked {
                 forecast,
                 tally,
-                stop,
+                stop: tallies::within(aim, left),
                 last,
                 keys,
             };

@@ -18,7 +18,7 @@ use Rattle.slots.proofs.Keys.{in-part}
 use Rattle.slots.proofs.Padded.{past-keys}
 use Rattle.slots.proofs.Render.{length-render, slot-render}
 use Rattle.rules.specs.Cards.{gapCard}
-use Rattle.rules.proofs.Cards.Gaps.{gap-found, gap-clean}
+use Rattle.demands.proofs.Cards.Gaps.{gap-found, gap-clean}
 use Rattle.strays.specs.declared.Lanes.{Lanes}
 use Rattle.strays.specs.Blanks.{Blank, Clear, Gathers}
 use Rattle.strays.proofs.Gathered.{or-three}

@@ -31,9 +31,9 @@ use Rattle.rules.specs.SharingOut.{plan, shareOut}
 use Rattle.rules.specs.Placing.{Room, frontWeight, sweep}
 use Rattle.rules.specs.Readings.{Limits}
 use Rattle.rules.specs.Calls.{roomOf}
-use Rattle.rules.proofs.Sharing.SharingOut.{length-plan, total-plan}
-use Rattle.rules.proofs.Sweeping.SweptWindow.{splice-set}
-use Rattle.rules.proofs.Requests.StaysGood.{Good, good-next}
+use Rattle.demands.proofs.Sharing.SharingOut.{length-plan, total-plan}
+use Rattle.demands.proofs.Sweeping.SweptWindow.{splice-set}
+use Rattle.demands.proofs.Requests.StaysGood.{Good, good-next}
 use Rattle.shares.specs.declared.Shape.{Shape}
 use Rattle.shares.specs.Rows.{sharesAt}
 use Rattle.levels.specs.Tables.{tableOf}

@@ -24,11 +24,11 @@ use Rattle.rules.specs.Shares.{Shares, cellsOf}
 use Rattle.rules.specs.Placing.{Room, Outcome, home, putIn, cutFrom, chosen, insertLevel, deleteLevel, frontWeight, sweep, settled, insertKey, deleteKey, outcome}
 use Rattle.rules.specs.Readings.{Smallest}
 use Rattle.rules.specs.Calls.{roomOf}
-use Rattle.rules.proofs.Sharing.Climb.{climb-is}
-use Rattle.rules.proofs.Sharing.Weighing.{noted-good, dropped-good, front-ruled}
-use Rattle.rules.proofs.Sweeping.SweptWindow.{home-in, here-in, there-window}
-use Rattle.rules.proofs.Requests.StaysGood.{Good}
-use Rattle.rules.proofs.Requests.Accepted.{Inserts, insert-accepted, Deletes, delete-accepted}
+use Rattle.demands.proofs.Sharing.Climb.{climb-is}
+use Rattle.demands.proofs.Sharing.Weighing.{noted-good, dropped-good, front-ruled}
+use Rattle.demands.proofs.Sweeping.SweptWindow.{home-in, here-in, there-window}
+use Rattle.demands.proofs.Requests.StaysGood.{Good}
+use Rattle.demands.proofs.Requests.Accepted.{Inserts, insert-accepted, Deletes, delete-accepted}
 use Rattle.shares.specs.declared.Shape.{Shape}
 use Rattle.shares.specs.Rows.{sharesAt}
 use Rattle.marks.specs.Marking.{Marking}

@@ -12,7 +12,7 @@ use Rattle.slots.proofs.Windows.{window-zero}
 use Rattle.rules.specs.Shares.{Shares, Lawful}
 use Rattle.rules.specs.SharingOut.{plan}
 use Rattle.rules.specs.Readings.{Limits}
-use Rattle.rules.proofs.Sharing.SharingOut.{length-plan, inside}
+use Rattle.demands.proofs.Sharing.SharingOut.{length-plan, inside}
 
 pub plan-fits : (S : Shares) → Lawful S → (l f : ℕ) (ws : List ℕ) → l ≤ S .height → Limits S l l (length ws) → (k : ℕ) → getD (plan S l f ws) k 0 ≤ 64
 unfolding plan

@@ -2,8 +2,4 @@ pub mod Walking
 pub mod RightTables
 pub mod Resums
 pub mod Spliced
-pub mod Trees
-pub mod Searches
-pub mod Fits
-pub mod Judged
 pub mod Cleared

@@ -1,9 +1,7 @@
 -- What the code on a table asks and promises.
 use Prim.Native.Nat.{ℕ, _+_, _*_, _^_, _≤_}
 use mathlib.Core.Path.{_≡_}
-use mathlib.Core.Bool.{Bool}
 use mathlib.Core.List.{List}
-use lib.Dec.{T}
 use lib.ListN.{length, take, getD}
 use Rattle.lists.specs.Lists.{total}
 use Rattle.levels.specs.Levels.{levels}
@@ -27,8 +25,3 @@ pub record Loose (n : ℕ) (t : List ℕ) : Type 0 where
   pub low : n ≤ 64
   pub long : length t + 1 ≡ 2 * n
   pub small : (k : ℕ) → getD t k 0 ≤ 4096
-
--- The answer to whether P holds.
-pub record Answers (P : Type 0) (r : Bool) : Type 0 where
-  pub yes : T r → P
-  pub no : P → T r

@@ -13,8 +13,8 @@ use Rattle.rules.specs.declared.Request.the-variants.{Insert, Delete}
 use Rattle.rules.specs.Placing.{Answer}
 use Rattle.rules.specs.Lent.{Lent, lend}
 use Rattle.rules.specs.Calls as rules
-use Rattle.rules.specs.Rows.{insertRows, deleteRows}
-use Rattle.rules.proofs.Refusals.Numbers as below
+use Rattle.demands.specs.Rows.{insertRows, deleteRows}
+use Rattle.demands.proofs.Refusals.Numbers as below
 use Rattle.answers.specs.declared.InsertReply.{InsertReply}
 use Rattle.answers.specs.declared.DeleteReply.{DeleteReply}
 use Rattle.answers.specs.Admits.{InsertAdmits, DeleteAdmits}

@@ -1,2 +1,1 @@
 pub mod ChangeGiven
-pub mod RunGiven

@@ -24,12 +24,12 @@ use Rattle.rules.specs.Placing.{refused}
 use Rattle.rules.specs.Lent.{Lent}
 use Rattle.rules.specs.Checks.{sharesOf, checkCards, thenForecast, thenTable, check, checkList, checkBoth}
 use Rattle.rules.specs.Calls.{Called, request, Worked, stoppedAtOnce, run}
-use Rattle.rules.proofs.Requests.Checked.{passed, both-pass}
-use Rattle.rules.proofs.Requests.CardsChecked.{cards-tested}
-use Rattle.rules.proofs.Requests.Tabled.{room-passes}
-use Rattle.rules.proofs.Requests.SingleCalls.{request-unchecked}
-use Rattle.rules.proofs.Refusals.Refused.{request-refused}
-use Rattle.rules.proofs.Running.Runs.{run-refused}
+use Rattle.demands.proofs.Requests.Checked.{passed, both-pass}
+use Rattle.demands.proofs.Requests.CardsChecked.{cards-tested}
+use Rattle.demands.proofs.Requests.Tabled.{room-passes}
+use Rattle.demands.proofs.Requests.SingleCalls.{request-unchecked}
+use Rattle.demands.proofs.Refusals.Refused.{request-refused}
+use Rattle.demands.proofs.Running.Runs.{run-refused}
 use Rattle.words.specs.Words.{saturated}
 use Rattle.words.proofs.Saturated.{fault-same, sound-same}
 

@@ -18,7 +18,7 @@ use Rattle.rules.specs.Cards.{gapCard}
 use Rattle.rules.specs.Lent.{Lent, lend}
 use Rattle.rules.specs.Checks.{sharesOf}
 use Rattle.rules.specs.declared.Refusal.the-variants.{UnknownProfile, WrongLength, WrongCards, WrongOrder, CardInGap, TooManyKeys}
-use Rattle.rules.proofs.Refusals.CheckCases.{unknown-profile, wrong-length, wrong-cards, wrong-order, card-in-gap, too-many, cards-sound}
+use Rattle.demands.proofs.Refusals.CheckCases.{unknown-profile, wrong-length, wrong-cards, wrong-order, card-in-gap, too-many, cards-sound}
 use Rattle.rules.proofs.Sharing.Profiles.{number-named}
 use Rattle.shares.specs.Rows.{sharesAt, Fetched}
 use Rattle.checks.proofs.Kept.{lawful-length, gaps-asked, gaps-told}

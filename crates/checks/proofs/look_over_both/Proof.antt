@@ -15,8 +15,8 @@ use Rattle.rules.specs.Checks.{sharesOf, checkCards, checkList}
 use Rattle.rules.specs.Refusals.{verdictNumber}
 use Rattle.rules.specs.declared.Verdict.the-variants.{Accepted}
 use Rattle.rules.specs.declared.Refusal.the-variants.{WrongForecast}
-use Rattle.rules.proofs.Requests.Shown.{shows-passed, long-passed}
-use Rattle.rules.proofs.Requests.Checked.{forecast-stays, forecast-wrong, forecast-passes}
+use Rattle.demands.proofs.Requests.Shown.{shows-passed, long-passed}
+use Rattle.demands.proofs.Requests.Checked.{forecast-stays, forecast-wrong, forecast-passes}
 use Rattle.checks.proofs.Numbers.{refused-some, looked-refused, counting-refused}
 use Rattle.checks.proofs.Tabling.{renumbered, cards-list}
 use Rattle.checks.specs.declared.Listing.{Listing}

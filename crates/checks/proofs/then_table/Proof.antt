@@ -2,7 +2,7 @@
 use mathlib.Core.Path.{sym, _∙_}
 use mathlib.Core.Logic.{_≢_}
 use borrow.Author.Needs.{needs}
-use Rattle.rules.proofs.Requests.Tabled.{number-stays}
+use Rattle.demands.proofs.Requests.Tabled.{number-stays}
 use Rattle.checks.proofs.Numbers.{refused-some}
 use Rattle.checks.proofs.Tabling.{renumbered, table-asks, right-looked, wrong-looked}
 use Rattle.checks.proofs.then_table.Statement.{statement}

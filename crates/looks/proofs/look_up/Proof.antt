@@ -14,7 +14,7 @@ use Rattle.slots.specs.Shown.{seat}
 use Rattle.slots.proofs.Seats.{seat-live}
 use Rattle.rules.specs.Lent.{Lent, lend, cardsOf}
 use Rattle.rules.specs.Looking.{Found}
-use Rattle.rules.proofs.Refusals.CheckCases.{lookup-passed}
+use Rattle.demands.proofs.Refusals.CheckCases.{lookup-passed}
 use Rattle.answers.proofs.Replies.{looked-zero, looked-live, looked-absent}
 use Rattle.looks.proofs.Passed.{can-seek, sought, found-live, cards-long, card-there}
 use Rattle.looks.proofs.look_up.Statement.{statement}

@@ -1,6 +1,6 @@
 -- Computed cases of the cards beside a list: records with a card, refusals 12 and 13, and where each card stands after a call.
 use mathlib.Core.Path.{_≡_, refl}
-use mathlib.Core.Bool.{true}
+use mathlib.Core.Bool.{true, false}
 use mathlib.Core.List.{List, [], _∷_, _++_}
 use Prim.Native.Nat.{ℕ, _+_, _-_}
 use lib.ListN.{length, replicate}
@@ -46,10 +46,10 @@ pub told-in-order : (checkCards 1 (lend [] (1 ∷ []) []) ≡ 1) × (checkCards 
 unfolding checkCards heightOf orderOf
 told-in-order = (refl, refl, refl, refl)
 
--- make tells 12 before 14, and leaves all
-pub make-told : make 1 (lend falling (7 ∷ []) []) ≡ notMade (lend falling (7 ∷ []) []) 12
+-- make tells 15 first, and 12 before 14, and leaves all
+pub make-told : (make 3 (lend falling (7 ∷ []) []) ≡ notMade (lend falling (7 ∷ []) []) 15) × (make 1 (lend falling (7 ∷ []) []) ≡ notMade (lend falling (7 ∷ []) []) 12)
 unfolding make heightOf
-make-told = refl
+make-told = (refl, refl)
 
 -- WHERE EACH CARD STANDS. Two segments, filled from the left
 abbrev filled : List ℕ → List ℕ → List ℕ
@@ -77,11 +77,17 @@ pub shorter-fits : (scan 1 three 0 (91 ∷ 92 ∷ 93 ∷ []) (81 ∷ 82 ∷ []) 
 unfolding scan scanned cardAt checkRead thenTable checkCards tableOf heightOf orderOf segmentsOf segmentOf
 shorter-fits = (refl, refl)
 
+-- where the last key is written no more remain, though keys stand above the one begun from
+pub all-written : scan 1 three 10 (91 ∷ 92 ∷ []) (81 ∷ 82 ∷ []) ≡ record { number = 0; written = 2; more = false; output = 20 ∷ 30 ∷ []; cards = 6 ∷ 7 ∷ [] }
+unfolding scan scanned cardAt checkRead thenTable checkCards tableOf heightOf orderOf segmentsOf segmentOf
+all-written = refl
+
 -- an insert puts its card beside its key, and those above go with their keys; a key that is there keeps its own
 pub insert-puts : (insert 1 three none 15 9 .lent ≡ lend (filled (10 ∷ 15 ∷ 20 ∷ []) (30 ∷ [])) (filled (5 ∷ 9 ∷ 6 ∷ []) (7 ∷ [])) (3 ∷ 1 ∷ 4 ∷ []))
+    × (insert 1 three none 15 9 .answer ≡ record { number = 0; moves = 2; sparse = false })
     × (insert 1 three none 20 9 .lent ≡ three)
 unfolding request check thenForecast thenTable checkCards cardAt cardsBeside tableOf heightOf orderOf faultOf faultAt cells padded forecastOf segmentsOf segmentOf predecessor raised tailed noted settled insertLevel insertKey outcome render
-insert-puts = (refl, refl)
+insert-puts = (refl, refl, refl)
 
 -- a delete closes the gap in both, and leaves card 0 in the last
 pub delete-closes : delete 1 three none 10 .lent ≡ lend (filled (20 ∷ []) (30 ∷ [])) (filled (6 ∷ []) (7 ∷ [])) (1 ∷ 1 ∷ 2 ∷ [])
@@ -92,9 +98,14 @@ delete-closes = refl
 abbrev bytes : List ℕ
 bytes = begins 4 20 ++ ((0 ∷ 0 ∷ 0 ∷ 8 ∷ []) ++ (begins 4 15 ++ ((0 ∷ 0 ∷ 0 ∷ 9 ∷ []) ++ begins 1 40)))
 
-abbrev ran-on : Worked
-ran-on = run 1 three none bytes 100 (record { worked = 0; refused = 0; moved = 0; sweeps = 0 })
+abbrev ran-within : ℕ → Worked
+ran-within allowance = run 1 three none bytes allowance (record { worked = 0; refused = 0; moved = 0; sweeps = 0 })
 
-pub run-keeps-cards : (ran-on .lent .cards ≡ filled (5 ∷ 9 ∷ 6 ∷ []) (7 ∷ 0 ∷ [])) × (ran-on .reply .tally .place ≡ 41)
+pub run-keeps-cards : (ran-within 100 .lent .cards ≡ filled (5 ∷ 9 ∷ 6 ∷ []) (7 ∷ 0 ∷ [])) × (ran-within 100 .reply .tally .place ≡ 41)
 unfolding run ran work recordsOf recordOf check thenForecast thenTable checkCards cardAt cardsBeside tableOf heightOf orderOf faultOf faultAt cells padded forecastOf segmentsOf segmentOf predecessor raised tailed noted settled insertLevel insertKey outcome render
 run-keeps-cards = (refl, refl)
+
+-- within 2 moves it stops before the third, which is not counted; the refused one is
+pub run-stops : ran-within 2 .reply ≡ record { tally = record { worked = 2; refused = 1; moves = 2; sweeps = 0; place = 30 }; stop = 10 }
+unfolding run ran work recordsOf recordOf check thenForecast thenTable checkCards cardAt cardsBeside tableOf heightOf orderOf faultOf faultAt cells padded forecastOf segmentsOf segmentOf predecessor raised tailed noted settled insertLevel insertKey outcome render
+run-stops = refl

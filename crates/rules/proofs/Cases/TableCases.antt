@@ -16,7 +16,7 @@ use Rattle.forecast.specs.Faults.{faultAt, faultOf}
 use Rattle.rules.specs.Placing.{settled, insertLevel, insertKey, outcome}
 use Rattle.rules.specs.Lent.{Lent, lend}
 use Rattle.rules.specs.Checks.{checkCards, thenForecast, thenTable, checkRead, check}
-use Rattle.rules.specs.Calls.{notMade, make, lookup, scan, request, insert}
+use Rattle.rules.specs.Calls.{notMade, make, lookup, scan, unchanged, request, insert}
 use Rattle.rules.proofs.Cases.RefusalCases.{slots, uncounted}
 
 -- SEGMENTS FIRST, each level left to right: of four segments with 1, 0, 2 and 1 keys, and where the windows round segment 2 have their entries
@@ -53,6 +53,11 @@ table-told-last = (refl, refl)
 pub reads-told : (lookup 1 (beside (2 ∷ 1 ∷ 4 ∷ [])) 0 .number ≡ 14) × (scan 1 (beside (2 ∷ 1 ∷ 4 ∷ [])) 0 (7 ∷ []) (8 ∷ []) ≡ record { number = 14; written = 0; more = false; output = 7 ∷ []; cards = 8 ∷ [] })
 unfolding lookup scan checkRead thenTable checkCards tableOf heightOf orderOf segmentsOf
 reads-told = (refl, refl)
+
+-- a request refused by it leaves it as it was lent
+pub left-wrong : insert 1 (beside (2 ∷ 1 ∷ 4 ∷ [])) none 9 0 ≡ unchanged (beside (2 ∷ 1 ∷ 4 ∷ [])) none 14
+unfolding request check thenForecast thenTable checkCards tableOf heightOf orderOf faultOf faultAt cells padded forecastOf segmentsOf segmentOf
+left-wrong = refl
 
 -- MAKE tests the length alone: it leaves all, or writes 0 in all
 pub make-short : make 1 (beside (2 ∷ 1 ∷ [])) ≡ notMade (beside (2 ∷ 1 ∷ [])) 14

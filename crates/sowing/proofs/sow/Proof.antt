@@ -2,7 +2,7 @@
 use native.Mathlib.Omega.{arith}
 use borrow.Author.Needs.{needs}
 use Rattle.moves.specs.Moves.{Packed}
-use Rattle.moves.proofs.Natural.{closed-kept}
+use Rattle.gaps.proofs.Natural.{closed-kept}
 use Rattle.sowing.specs.Sown.{Planted}
 use Rattle.sowing.proofs.Sown.{sized, counts-fit, room, keys-few, up-to, put-in, among, taken-out}
 use Rattle.sowing.proofs.sow.Statement.{statement}

@@ -2,7 +2,7 @@
 use Prim.Native.Nat.{_+_, _-_}
 use native.Mathlib.Omega.{arith}
 use lib.ListN.{length-set}
-use Rattle.moves.proofs.Natural.{moved-kept, set-kept}
+use Rattle.gaps.proofs.Natural.{moved-kept, set-kept}
 use Rattle.spreads.proofs.Inserting.{lay-after, lay-before, lay-with}
 use borrow.Author.Needs.{needs}
 use Rattle.spreads.proofs.lay_in.Statement.{statement}

@@ -9,7 +9,7 @@ use lib.Seq.{take-length}
 use Rattle.lists.specs.Lists.{total}
 use Rattle.lists.proofs.Joined.{total-suc}
 use Rattle.moves.specs.Moves.{gather}
-use Rattle.moves.proofs.Natural.{moved-kept}
+use Rattle.gaps.proofs.Natural.{moved-kept}
 use Rattle.spreads.proofs.Packing.{pack-step, gather-length-suc}
 use Rattle.spreads.proofs.pack.Statement.{statement}
 use Rattle.spreads.proofs.pack.Tie as tie

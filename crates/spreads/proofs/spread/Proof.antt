@@ -5,7 +5,7 @@ use Prim.Native.Nat.{ℕ, _+_, _*_, _-_, _≤_, _<_}
 use native.Mathlib.Omega.{arith}
 use lib.ListN.{length, getD, take}
 use lib.Seq.{take-length}
-use Rattle.moves.proofs.Natural.{moved-kept, cleared-kept}
+use Rattle.gaps.proofs.Natural.{moved-kept, cleared-kept}
 use Rattle.lists.specs.Lists.{total}
 use Rattle.spreads.proofs.Packing.{total-bound, total-all, total-pred}
 use Rattle.spreads.proofs.Laying.{Laid, laid-none, laid-all, laid-out}

@@ -7,7 +7,7 @@ use lib.ListN.{length, getD, take}
 use lib.Seq.{take-length}
 use Rattle.lists.specs.Lists.{total, deal, insertAt}
 use Rattle.slots.specs.Layout.{render}
-use Rattle.moves.proofs.Natural.{cleared-kept}
+use Rattle.gaps.proofs.Natural.{cleared-kept}
 use Rattle.spreads.proofs.Inserting.{insert-keys, laid-in}
 use Rattle.spreads.proofs.Packing.{total-bound, total-all, total-pred}
 use Rattle.spreads.proofs.Laying.{Laid, laid-none, laid-all}

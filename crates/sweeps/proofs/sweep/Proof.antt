@@ -7,7 +7,7 @@ use lib.Seq.{length-take-le}
 use borrow.Rule.Slice.PartMut.{midOf, putMid, mid-len, same-len-mid}
 use borrow.Author.Needs.{needs}
 use Rattle.slots.specs.Segments.{segmentsOf}
-use Rattle.moves.proofs.Natural.{part-kept, back-kept}
+use Rattle.gaps.proofs.Natural.{part-kept, back-kept}
 use Rattle.seats.proofs.Indexes.{few-segments, count-small}
 use Rattle.sweeps.specs.Acts.{Acting}
 use Rattle.sweeps.proofs.SweptLeft.{level-low, at-few, from, to, ends, slots-lent, counts-lent, fits, planted, swept-left}

@@ -33,11 +33,11 @@ returns-3 c F s =
     let l = f .before .before in
     rw (c .refuse3 .ensures) (in-full s (l .before .if1 .left) (l .spot .ensures) (f .if2 .left) (c .before .if3 .taken))
 
-sub-t19 : tie.Need-sub-t19
-sub-t19 c = omega (arith, c .before .before .before .before .before .before .spot .ensures .order)
+sub-t18 : tie.Need-sub-t18
+sub-t18 c = omega (arith, c .before .before .before .before .before .before .spot .ensures .order)
 
-add-t20 : tie.Need-add-t20
-add-t20 c = omega (arith, c .before .before .before .before .before .before .spot .ensures .few)
+add-t19 : tie.Need-add-t19
+add-t19 c = omega (arith, c .before .before .before .before .before .before .spot .ensures .few)
 
 returns-4 : tie.Need-returns-4
 returns-4 c F s =
@@ -71,8 +71,8 @@ aim-in-spec =
     returns-2
     refuse-requires-3
     returns-3
-    sub-t19
-    add-t20
+    sub-t18
+    add-t19
     returns-4
     climb-requires
     returns-5)

@@ -1,5 +1,5 @@
 -- `ff_delete`: the sizes, then the delete on words.
-use Rattle.host.proofs.Misfits.{delete-misfit}
+use Rattle.host.proofs.Misfits.{numbered, delete-misfit}
 use Rattle.host.proofs.Sized.{both-fit}
 use borrow.Author.Needs.{needs}
 use Rattle.host.proofs.changing.ff_delete.Statement.{statement}
@@ -8,10 +8,13 @@ use Rattle.host.proofs.changing.ff_delete.Tie as tie
 misfits-requires : tie.Need-misfits-requires
 misfits-requires c κs = search needs
 
+misfit-requires : tie.Need-misfit-requires
+misfit-requires c κs = search needs
+
 returns : tie.Need-returns
 returns c =
-    let a = c .before .before .before .before .before .before .before .args in
-    delete-misfit (a .profile) (a .list .now) (a .cards .now) (a .table .now) (a .forecast .now) (a .key) (a .reply .now) _ (c .before .misfits .ensures) (c .if1 .taken)
+    let a = c .before .before .before .before .before .before .before .before .args in
+    numbered _ (c .misfit .ensures) (delete-misfit (a .profile) (a .list .now) (a .cards .now) (a .table .now) (a .forecast .now) (a .key) (a .reply .now) _ (c .before .before .misfits .ensures) (c .before .if1 .taken))
 
 delete-requires : tie.Need-delete-requires
 delete-requires c κs =
@@ -41,6 +44,7 @@ ff-delete-spec =
     tie.close
     (tie.spec
     misfits-requires
+    misfit-requires
     returns
     delete-requires
     same-length

@@ -1,5 +1,5 @@
 -- `ff_insert`: the sizes, then the insert on words.
-use Rattle.host.proofs.Misfits.{insert-misfit}
+use Rattle.host.proofs.Misfits.{numbered, insert-misfit}
 use Rattle.host.proofs.Sized.{both-fit}
 use borrow.Author.Needs.{needs}
 use Rattle.host.proofs.changing.ff_insert.Statement.{statement}
@@ -8,10 +8,13 @@ use Rattle.host.proofs.changing.ff_insert.Tie as tie
 misfits-requires : tie.Need-misfits-requires
 misfits-requires c κs = search needs
 
+misfit-requires : tie.Need-misfit-requires
+misfit-requires c κs = search needs
+
 returns : tie.Need-returns
 returns c =
-    let a = c .before .before .before .before .before .before .before .args in
-    insert-misfit (a .profile) (a .list .now) (a .cards .now) (a .table .now) (a .forecast .now) (a .key) (a .reply .now) _ (a .card) (c .before .misfits .ensures) (c .if1 .taken)
+    let a = c .before .before .before .before .before .before .before .before .args in
+    numbered _ (c .misfit .ensures) (insert-misfit (a .profile) (a .list .now) (a .cards .now) (a .table .now) (a .forecast .now) (a .key) (a .reply .now) _ (a .card) (c .before .before .misfits .ensures) (c .before .if1 .taken))
 
 insert-requires : tie.Need-insert-requires
 insert-requires c κs =
@@ -41,6 +44,7 @@ ff-insert-spec =
     tie.close
     (tie.spec
     misfits-requires
+    misfit-requires
     returns
     insert-requires
     same-length

@@ -1,5 +1,5 @@
 -- `ff_run`: the sizes, then the run on words.
-use Rattle.host.proofs.Misfits.{run-misfit}
+use Rattle.host.proofs.Misfits.{numbered, run-misfit}
 use Rattle.host.proofs.Sized.{all-fit}
 use borrow.Author.Needs.{needs}
 use Rattle.host.proofs.running.ff_run.Statement.{statement}
@@ -8,10 +8,13 @@ use Rattle.host.proofs.running.ff_run.Tie as tie
 run-misfits-requires : tie.Need-run-misfits-requires
 run-misfits-requires c κs = search needs
 
+misfit-requires : tie.Need-misfit-requires
+misfit-requires c κs = search needs
+
 returns : tie.Need-returns
 returns c =
-    let a = c .before .before .before .before .before .before .before .before .before .args in
-    run-misfit (a .profile) (a .list .now) (a .cards .now) (a .table .now) (a .forecast .now) (a .requests .now) (a .allowance) (a .totals .now) (a .reply .now) _ (c .before .run-misfits .ensures) (c .if1 .taken)
+    let a = c .before .before .before .before .before .before .before .before .before .before .args in
+    numbered _ (c .misfit .ensures) (run-misfit (a .profile) (a .list .now) (a .cards .now) (a .table .now) (a .forecast .now) (a .requests .now) (a .allowance) (a .totals .now) (a .reply .now) _ (c .before .before .run-misfits .ensures) (c .before .if1 .taken))
 
 run-requires : tie.Need-run-requires
 run-requires c κs =
@@ -44,6 +47,7 @@ ff-run-spec =
     tie.close
     (tie.spec
     run-misfits-requires
+    misfit-requires
     returns
     run-requires
     same-length

@@ -11,7 +11,7 @@ use Rattle.rules.specs.Checks.{checkRead}
 use Rattle.rules.specs.Looking.{notFound}
 use Rattle.rules.specs.Calls.{lookup}
 use Rattle.checks.proofs.Numbers.{refused-some}
-use Rattle.rules.proofs.Refusals.CheckCases.{lookup-refused}
+use Rattle.demands.proofs.Refusals.CheckCases.{lookup-refused}
 use Rattle.list.proofs.calls.lookup.Statement.{statement}
 use Rattle.list.proofs.calls.lookup.Tie as tie
 

@@ -4,7 +4,7 @@ use mathlib.Core.List.{List}
 use Prim.Native.Nat.{ℕ, _+_, _-_, _≤_}
 use native.Mathlib.Omega.{arith}
 use Rattle.rules.specs.SharingOut.{formula6, least}
-use Rattle.rules.proofs.Sharing.SharingOut.{least-from}
+use Rattle.demands.proofs.Sharing.SharingOut.{least-from}
 use Rattle.stretches.specs.Parts.{weightsIn, PartOf}
 use Rattle.stretches.specs.Tries.{Modest}
 use Rattle.stretches.proofs.Looks.{bestOf}

@@ -13,7 +13,7 @@ use Rattle.rules.specs.declared.Record.{Record}
 use Rattle.rules.specs.Placing.{outcome}
 use Rattle.rules.specs.Calls.{roomOf}
 use Rattle.rules.specs.Cards.{cardsBeside, cardsAfter}
-use Rattle.rules.proofs.Cards.Beside.{beside-length}
+use Rattle.demands.proofs.Cards.Beside.{beside-length}
 use Rattle.aims.specs.declared.Aim.{Aim}
 use Rattle.aims.specs.Aims.{Aimed}
 use Rattle.aims.proofs.Standing.{few-stands}

@@ -3,8 +3,8 @@ use mathlib.Core.Path.{_≡_, ap, _∙_}
 use Prim.Native.Nat.{ℕ, _-_, _≤_}
 use native.Mathlib.Omega.{arith}
 use lib.ListN.{length, length-set}
-use Rattle.moves.specs.Moves.{cleared}
-use Rattle.moves.proofs.Moving.{clear-none, clear-more}
+use Rattle.gaps.specs.Gaps.{cleared}
+use Rattle.gaps.proofs.Clearing.{clear-none, clear-more}
 use Rattle.tables.proofs.Cleared.{all-cleared}
 use Rattle.tables.proofs.keeping.clear.Statement.{statement}
 use Rattle.tables.proofs.keeping.clear.Tie as tie

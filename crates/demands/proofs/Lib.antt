@@ -1,0 +1,10 @@
+pub mod Sharing
+pub mod Cards
+pub mod Sweeping
+pub mod Requests
+pub mod Demand3
+pub mod Sets
+pub mod Refusals
+pub mod Running
+pub mod Demand2
+pub mod Demands

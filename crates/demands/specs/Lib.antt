@@ -1,0 +1,9 @@
+pub mod Rows
+pub mod Demand1
+pub mod PlainSet
+pub mod Demand2
+pub mod Demand2Mixed
+pub mod History
+pub mod Demand3
+pub mod Demand3Lent
+pub mod Demands

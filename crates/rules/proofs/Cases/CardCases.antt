@@ -1,4 +1,5 @@
--- Computed cases of the cards beside a list: records with a card, refusals 12 and 13, and where each card stands after a call.
+-- Computed cases of the calls on a list with cards: records with a card, refusals 12 and 13, where each card stands after a call, a scan to
+-- the last key, and a run that stops.
 use mathlib.Core.Path.{_≡_, refl}
 use mathlib.Core.Bool.{true, false}
 use mathlib.Core.List.{List, [], _∷_, _++_}

@@ -73,13 +73,5 @@ struct List {
             output_cards, room, reply, 2);
     return reply[0];
   }
-
-  // Copies itself into a target, of whose table so many entries are lent: the number.
-  uint64_t recopy(List &target, size_t entries) const {
-    uint64_t moves = 0;
-    return ff_recopy(profile, slots.data(), slots.size(), cards.data(), cards.size(), table.data(), table.size(), forecast.data(),
-                     FF_FORECAST, target.slots.data(), target.slots.size(), target.cards.data(), target.cards.size(),
-                     target.table.data(), entries, target.forecast.data(), FF_FORECAST, &moves, 1);
-  }
 };
 #endif

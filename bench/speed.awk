@@ -7,7 +7,7 @@ FNR == 1 { FS = "\t"; $0 = $0 }
     if (!($4 in seen)) { seen[$4] = 1; rows[++n] = $4 }
     if (!($2 in seen)) { seen[$2] = 1; sets[++m] = $2 }
     each[$4, $2] = sprintf("%.1f", sum[$1] / $3)
-    beyond[$4] += (($2 == sets[1]) - ($2 == sets[2])) * sum[$1] / $3
+    beyond[$4] += ($2 == sets[1] ? 1 : -1) * sum[$1] / $3
 }
 END {
     printf "| %-26s |", what

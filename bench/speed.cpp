@@ -1,9 +1,7 @@
-// The same work on each set: the requests of each pattern, then lookups and scans on 2,048 random keys. Then a lookup's own part, and
-// recopies.
+// The same work on each set: the requests of each pattern, then lookups and scans on 2,048 random keys. Then a lookup's own part.
 // `speed count` marks the regions for the counter and names them; `speed time` times them (rows.h). Stops where two sets differ.
 #include <cstring>
 
-#include "recopies.h"
 #include "rows.h"
 #include "sets.h"
 
@@ -153,5 +151,4 @@ int main(int, char **argv) {
   reading<Singly<Broad>>(rows, random);
   reading<Singly<Sorted>>(rows, random);
   own_parts(rows, random);
-  recopies(rows);
 }

@@ -1,10 +1,12 @@
 /* A small classroom in C: loads an exercise, each event with the number of its instructor's card, works request records, looks up, scans,
    meets refusals, draws the list, and fills it by each profile.
    examples/run builds it, runs it, and holds what it prints to examples/host.out. */
+#include <inttypes.h>
+#include <stdio.h>
+#include <stdlib.h>
 #include <string.h>
 
 #include "ffalwenog.h"
-#include "must.h"
 
 enum { ROOMY = 1, TIGHT = 2 };                                    /* the two profiles; the classroom uses the first */
 enum { HEIGHT = 2, SEGMENT = 64, SEGMENTS = 1 << HEIGHT, SLOTS = SEGMENT * SEGMENTS }; /* 256 slots, so at most 128 keys */
@@ -27,6 +29,15 @@ struct requests {
     uint8_t bytes[40 * 15];
     size_t length;
 };
+
+/* Ends the program where a number is not what it must be. */
+static void must(const char *what, uint64_t is, uint64_t must_be)
+{
+    if (is == must_be)
+        return;
+    fprintf(stderr, "%s: %" PRIu64 ", but it must be %" PRIu64 "\n", what, is, must_be);
+    exit(1);
+}
 
 /* The key of an event: the minute of the day, the kind, and which compartment, hold or pump; so keys rise with time.
    Kind 0 and number 0 give a key just below all events of that minute: a place to scan from. */

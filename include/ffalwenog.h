@@ -19,8 +19,6 @@
      totals    4 words of 32 bits that a run adds to: records worked, records refused, keys moved, sweeps; each modulo 2^32.
      requests  bytes: records of 11 bytes, 0xA5 0x5A, the kind (1 insert, 2 delete), the key, high byte first; or of 15 bytes, which
                begin so with kind 4, insert with a card, and end with the card, high byte first. Kind 1 means card 0.
-     target    with target_cards and target_table: another list's memory, of any height, that a recopy fills; what it holds does not matter.
-               With target_forecast: 37 words, written where the recopy is done, and never read.
      reply     words that the call writes, in the order given with it. Words beyond those stay as they are.
    Lengths count elements. Pointers are aligned and not NULL, for a length of 0 too, and nothing that a call writes to overlaps
    anything else that it is lent. Beyond this a call asks nothing: any contents are checked, and answered.
@@ -36,19 +34,16 @@
        4  the forecast uses more than 6 + h cells; or a used cell's count is not from 1 to 6 + h, its marker is another's or neither
           0 nor a live key, or its segment is wrong; or an unused cell is not all zeros
       14  the length of the table is not 2^(h+1) - 1, or an entry is not the count of its window
-          (a recopy tests 1, 12 and 14 a second time, now on the target: the lengths alone)
-      11  recopy: the keys do not fit the target, of height h: fewer than 26 (profile 2: 40) fit height 1 alone, and others fit where
-          they are from 13 * 2^h to 32 * 2^h (profile 2: from 20 * 2^h to 44 * 2^h)
        5  the key of an insert, delete or lookup is 0
        6  insert: the key is present
        7  delete: the key is absent
        8  insert: the list already holds 32 * 2^h keys (profile 2: 44 * 2^h)
        9  run: stopped before a short record (under 11 bytes; of kind 4, under 15), a wrong mark or a wrong kind
       10  run: stopped before a record whose moves would pass the allowance
-     100  a forecast is not 37 words, the totals are not 4, or the reply is shorter than listed: tested before all else
-   The numbers are tested in this order, but 100 first. 100 touches nothing. 15, 1 to 8 and 11 to 14 leave list, cards, table, forecast
-   (but for ff_make), outputs, target and totals, and make the listed words of the reply 0. 9 and 10 keep the work of the records before
-   the one that stopped the run, and the reply tells of it. */
+     100  the forecast is not 37 words, the totals are not 4, or the reply is shorter than listed: tested before all else
+   The numbers are tested in this order, but 100 first. 100 touches nothing. 15, 1 to 8 and 12 to 14 leave list, cards, table, forecast
+   (but for ff_make), outputs and totals, and make the listed words of the reply 0. 9 and 10 keep the work of the records before the one
+   that stopped the run, and the reply tells of it. */
 #ifndef FFALWENOG_H
 #define FFALWENOG_H
 
@@ -104,19 +99,6 @@ uint64_t ff_scan(uint64_t profile, const uint64_t *list, size_t list_length, con
 uint64_t ff_run(uint64_t profile, uint64_t *list, size_t list_length, uint32_t *cards, size_t cards_length, size_t *table,
                 size_t table_length, uint64_t *forecast, size_t forecast_length, const uint8_t *requests, size_t requests_length,
                 uint64_t allowance, uint32_t *totals, size_t totals_length, uint64_t *reply, size_t reply_length);
-
-/* Copies a list with its cards into the target, of any height that its keys fit, shared out as by a sweep of the whole target; fewer than
-   26 keys (profile 2: 40) go to height 1 alone, in even halves. So a list that is full (8) moves to a larger array, and a sparse one to a
-   smaller. The target's forecast is the list's, with each cell's segment in the target; going to a smaller height, counts above the new
-   6 + h become that and cells past it are dropped, the oldest. reply: the moves, the keys copied.
-   Gives 0, 15, 1 to 4, 12 to 14, then 1, 12 or 14 for the target's lengths, or 11. The list stays as it is, with its cards, table and
-   forecast, and stays usable. After 0 the target, its cards, table and forecast pass the check, whatever they held before; refused, all
-   four stay. As everywhere nothing may overlap: the target's four slices, its forecast among them, are memory of their own. */
-uint64_t ff_recopy(uint64_t profile, const uint64_t *list, size_t list_length, const uint32_t *cards, size_t cards_length,
-                   const size_t *table, size_t table_length, const uint64_t *forecast, size_t forecast_length, uint64_t *target,
-                   size_t target_length, uint32_t *target_cards, size_t target_cards_length, size_t *target_table,
-                   size_t target_table_length, uint64_t *target_forecast, size_t target_forecast_length, uint64_t *reply,
-                   size_t reply_length);
 
 #ifdef __cplusplus
 }

@@ -1,8 +1,8 @@
 """Demand 3 of the model, tried on random histories by a recorder that keeps every request and counts anew at each sweep, and after each
-change of profile and each recopy.
+change of profile.
 
-    python3 tests/demand3.py [COUNT [SEED]]     COUNT requests from lists of each height and profile; the forecast changes hands, at times
-                                                so does the profile, and at times the list moves to another array
+    python3 tests/demand3.py [COUNT [SEED]]     COUNT requests at each height from lists of each profile; the forecast changes hands, and
+                                                at times so does the profile
 """
 import collections
 import random
@@ -12,12 +12,11 @@ import model
 import oracle
 import sequences
 import sums
-from hand import HEIGHTS, Hand
+from hand import Hand
 from starts import TOP, any_counts, overfull, some_forecast, thin, underfull
 
 STARTS = (overfull, underfull, any_counts, thin)
 WORK = dict(insert=model.work_insert, delete=model.work_delete)
-SMALL = {1: 26, 2: 40}      # a recopy of fewer keys is no sweep
 
 
 def near(hand, kind, keys):
@@ -55,14 +54,12 @@ def inside(window, level, start):
 
 
 class Recorder:
-    """Every request that was worked by one profile in one array, since another was: its segment, 1 or -1, and the chosen window if there
-    is one."""
+    """Every request that was worked by one profile, since another was: its segment, 1 or -1, and the chosen window if there is one."""
 
     def __init__(self, h, tally):
         self.h, self.tally = h, tally
         self.profile, self.past = None, []
         self.again = collections.Counter()      # windows swept again, by profile, level and kind
-        self.recopies = 0
 
     def high(self, level):
         return sums.SHARES[self.profile][self.h][0][level]
@@ -82,15 +79,6 @@ class Recorder:
             self.held(window, moves, before, after)
             for level in range(1, window[0] + 1):
                 self.swept(level, segment, kind)
-
-    def recopied(self, profile, h, moves, after):
-        """A recopy is a sweep of the whole target, and counting starts afresh there; a small one is no sweep."""
-        self.h = h
-        self.afresh(profile)
-        self.recopies += 1
-        if moves >= SMALL[profile]:
-            self.past.append((0, 0, (h, 0)))
-            self.held((h, 0), moves, after, after)
 
     def held(self, window, moves, before, after):
         """After a sweep every window strictly inside is within its parent's shares; nothing outside has changed."""
@@ -128,39 +116,25 @@ def work(recorder, hand, kind, key):
     hand.list, hand.forecast = after, oracle.words(forecast)
 
 
-def recopy(recorder, hand, h):
-    """To an array of this height, if the keys fit it."""
-    lent = model.laid(hand.list, dict.fromkeys(hand.live(), 0))
-    target = model.made_empty(1, h)[:3]
-    number, moves, after, _, _, forecast = model.recopy(hand.profile, *lent, oracle.cells(hand.forecast), *target)
-    if number == 0:
-        recorder.recopied(hand.profile, h, moves, after)
-        hand.h, hand.list, hand.forecast = h, after, oracle.words(forecast)
-
-
 def turn(hand):
     """The other profile from here on, if the list is not too crowded for it."""
     if len(hand.live()) <= model.most_keys(hand.other(), hand.h):
         hand.profile = hand.other()
 
 
-def history(rng, recorder, h, profile, length):
-    """Moods by turns; now and then another forecast is lent, or an empty one; in some histories another profile, in some another array."""
-    hand = Hand(rng, h, rng.choice(STARTS), profile)
-    recorder.h = h
+def history(rng, recorder, profile, length):
+    """Moods by turns; now and then another forecast is lent, or an empty one; in some histories another profile."""
+    hand = Hand(rng, recorder.h, rng.choice(STARTS), profile)
     recorder.afresh()
-    turns, moves = rng.choice((0, 0, 0, 0.02)), rng.choice((0, 0, 0.02))
+    turns = rng.choice((0, 0, 0, 0.02))
     moods, left = rng.choice((TIDES, MOODS)), 0
     for _ in range(length):
-        if rng.random() < moves:
-            recopy(recorder, hand, min(6, max(1, hand.h + rng.choice((1, 1, 0, -1)))))
-            left = 0
         if left == 0:
-            left, mood = rng.randint(20, 100 * 2 ** (hand.h // 2)), rng.choice(moods)(hand)
+            left, mood = rng.randint(20, 100 * 2 ** (recorder.h // 2)), rng.choice(moods)(hand)
         left -= 1
         way = rng.random()
         if way < 0.1:
-            hand.forecast = some_forecast(rng, hand.h, hand.list, 0 if way < 0.03 else None)
+            hand.forecast = some_forecast(rng, recorder.h, hand.list, 0 if way < 0.03 else None)
         if rng.random() < turns:
             turn(hand)
         work(recorder, hand, *next(mood))
@@ -169,8 +143,7 @@ def history(rng, recorder, h, profile, length):
 
 
 def played(tally, segments, requests, profile=1):
-    """A history by hand, on a list of these segments: requests; the cells of forecasts, and the profiles, that are lent from there on;
-    recopies, with their height."""
+    """A history by hand, on a list of these segments: requests; the cells of forecasts, and the profiles, that are lent from there on."""
     hand = Hand(random.Random(0), len(segments).bit_length() - 1, profile=profile)
     recorder = Recorder(hand.h, tally)
     hand.list, hand.forecast = model.to_slots(segments), oracle.words(model.as_forecast([]))
@@ -179,8 +152,6 @@ def played(tally, segments, requests, profile=1):
             hand.forecast = oracle.words(model.as_forecast(request))
         elif isinstance(request, int):
             hand.profile = request
-        elif request[0] == "recopy":
-            recopy(recorder, hand, request[1])
         else:
             work(recorder, hand, *request)
     return dict(recorder.again)
@@ -209,28 +180,14 @@ def by_hand(tally):
     tally.same("by another profile", played(tally, crowded, first + [1] + each("insert", *range(1, 15)), 2), {})
 
 
-def recopies_by_hand(tally):
-    """A recopy is a sweep: a segment that it gave 16 keys is swept again by the 49th that comes. A small one is none, and two deletes may
-    make a sweep then; nor does what was swept before it count."""
-    full = [list(range(1000, 1032)), list(range(2000, 2032))]
-    tally.same("after a recopy", played(tally, full, [("recopy", 2)] + each("insert", *range(1, 50))), {(1, 1, "insert"): 1})
-    for profile, most in ((1, 25), (2, 39)):
-        tally.same("%d keys" % most, played(tally, [list(range(1, most + 1)), []], [("recopy", 1)], profile), {})
-    last = each("insert", *range(2000, 2020)) + each("delete", 1001, 1002)
-    tally.same("after a small one", played(tally, [list(range(1000, 1016)), []], [("recopy", 1)] + last), {})
-    swept = [list(range(993, 1000)), list(range(1000, 1030))]
-    less = each("delete", 993) + each("delete", *range(994, 1000), *range(1008, 1011), *range(1019, 1030))
-    tally.same("before a small one", played(tally, swept, less + [("recopy", 1)] + last), {})
-
-
 def at_height(rng, h, count, tally):
-    """So many requests. Gives how many windows of each level were swept again, by inserts and by deletes, for each profile; and the recopies."""
+    """So many requests. Gives how many windows of each level were swept again, by inserts and by deletes, for each profile."""
     recorder = Recorder(h, tally)
     most = 150 * h + 100
     for profile in model.PROFILES:
         for done in range(0, count, most):
-            history(rng, recorder, h, profile, min(most, count - done))
-    return [[recorder.again[profile, level, kind] for level in HEIGHTS] for profile in model.PROFILES for kind in WORK], recorder.recopies
+            history(rng, recorder, profile, min(most, count - done))
+    return [[recorder.again[profile, level, kind] for level in range(1, h + 1)] for profile in model.PROFILES for kind in WORK]
 
 
 def main(args):
@@ -238,16 +195,12 @@ def main(args):
     rng = random.Random(int(args[1]) if len(args) > 1 else 1)
     tally = sums.Tally()
     by_hand(tally)
-    recopies_by_hand(tally)
     print("windows swept again, level 1 first: by inserts, by deletes; then the same of profile 2")
-    again, recopies = [], 0
-    for h in HEIGHTS:
-        told, moved = at_height(rng, h, count, tally)
-        again.append(told)
-        recopies += moved
-        print("  height %d:" % h, *told)
+    again = []
+    for h in range(1, 7):
+        again.append(at_height(rng, h, count, tally))
+        print("  height %d:" % h, *again[-1])
     if count >= ENOUGH:
-        tally.same("recopies", recopies > 0, True)
         tally.same("swept again in every way", [sum(sum(told[way]) for told in again) > 0 for way in range(4)], [True] * 4)
     return tally.close()
 

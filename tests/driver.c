@@ -1,8 +1,8 @@
 /* Makes the calls that standard input asks for, and writes back what each returned and all the memory it was lent, with guards.
 
-   Asked, in words of 64 bits, low byte first: the call (1 to 8, in the order of the header; 9, the run over lent totals as a struct),
+   Asked, in words of 64 bits, low byte first: the call (1 to 7, in the order of the header; 8, the run over lent totals as a struct),
    the profile, the call's number (key, from or allowance), the card of an insert,
-   the lengths of the slices below in elements; then their contents. A slice that the call does not take is left alone.
+   the lengths of the nine slices below in elements; then their contents. A slice that the call does not take is left alone.
    Answered: the word returned; then each slice with GUARD bytes before it and after it, as they now are. */
 #include "ffalwenog.h"
 #include "over.h"
@@ -10,12 +10,11 @@
 #include <stdio.h>
 #include <stdlib.h>
 
-enum { LIST, CARDS, TABLE, FORECAST, REQUESTS, TOTALS, OUTPUT, OUTPUT_CARDS, TARGET, TARGET_CARDS, TARGET_TABLE, TARGET_FORECAST, REPLY,
-       SLICES };
-enum { MAKE = 1, CHECK, LOOKUP, INSERT, DELETE, SCAN, RUN, RECOPY, OVER };
+enum { LIST, CARDS, TABLE, FORECAST, REQUESTS, TOTALS, OUTPUT, OUTPUT_CARDS, REPLY, SLICES };
+enum { MAKE = 1, CHECK, LOOKUP, INSERT, DELETE, SCAN, RUN, OVER };
 enum { GUARD = 32, MOST = 1 << 20, HEAD = 4 + SLICES };
 
-static const size_t width[SLICES] = {8, 4, sizeof(size_t), 8, 1, 4, 8, 4, 8, 4, sizeof(size_t), 8, 8};
+static const size_t width[SLICES] = {8, 4, sizeof(size_t), 8, 1, 4, 8, 4, 8};
 
 /* Guards and content stand in one piece of memory; the content is aligned as its elements ask, and no better. */
 struct slice {
@@ -65,10 +64,6 @@ static uint64_t call(uint64_t ask, uint64_t profile, uint64_t number, uint32_t c
     case RUN:
         return ff_run(profile, list, n, cards, c, table, t, forecast, f, s[REQUESTS].content, s[REQUESTS].length, number,
                       s[TOTALS].content, s[TOTALS].length, reply, r);
-    case RECOPY:
-        return ff_recopy(profile, list, n, cards, c, table, t, forecast, f, s[TARGET].content, s[TARGET].length,
-                         s[TARGET_CARDS].content, s[TARGET_CARDS].length, s[TARGET_TABLE].content, s[TARGET_TABLE].length,
-                         s[TARGET_FORECAST].content, s[TARGET_FORECAST].length, reply, r);
     case OVER:
         must(f == FF_FORECAST && s[TOTALS].length == FF_TOTALS && r >= 4 && has_room(forecast), "no room");
         return run_over(profile, list, n, cards, c, table, t, forecast, s[REQUESTS].content, s[REQUESTS].length, number,

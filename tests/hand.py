@@ -1,21 +1,16 @@
 """The hand that lends: a list, its cards and table, a forecast and totals that go from call to call, mostly by the profile that they were
-made for, and targets for recopies."""
-from array import array
-from dataclasses import replace
-
+made for."""
 import model
 import oracle
 from starts import TOP, any_counts, some_forecast, some_list
 from wire import Lent
 
-HEIGHTS = range(1, 7)
-
 
 class Hand:
-    """focus: the live key round which the calls go on; left: by the height, what a recopy has moved from."""
+    """focus: the live key round which the calls go on."""
 
     def __init__(self, rng, h, counts=any_counts, profile=None):
-        self.rng, self.h, self.left = rng, h, {}
+        self.rng, self.h = rng, h
         self.profile = profile or rng.choice(model.PROFILES)
         counts, segment = counts(rng, self.profile, h)
         self.lay(some_list(rng, counts))
@@ -61,10 +56,10 @@ class Hand:
 
     def junk(self, n):
         """Words to find again, or to see overwritten."""
-        return list(array("Q", self.rng.randbytes(8 * n)))
+        return [self.rng.randint(1, TOP) for _ in range(n)]
 
     def junk_cards(self, n):
-        return list(array("I", self.rng.randbytes(4 * n)))
+        return [self.rng.randint(1, model.MOST_CARD) for _ in range(n)]
 
     def packed(self, kind, key):
         """A request as a record: an insert with a card, or of kind 1."""
@@ -77,29 +72,7 @@ class Hand:
         rng = self.rng
         return rng.choice((room, room, room, 0, max(0, room - 1), room + 1, rng.randint(0, room), rng.randint(room, 2 * room)))
 
-    def target(self, h):
-        """What a recopy into this height is lent to fill: any words; nothing; what the hand has left there, else a list of its own; or the
-        hand's own list, as far as it goes."""
-        n, size, way = model.SEGMENT * 2 ** h, model.table_size(h), self.rng.random()
-        if way < 0.5:
-            parts = self.junk(n), self.junk_cards(n), self.junk(size), self.junk(oracle.FORECAST)
-        elif way < 0.6:
-            parts = [0] * n, [0] * n, [0] * size, [0] * oracle.FORECAST
-        elif way < 0.8:
-            parts = self.left.get(h) or Hand(self.rng, h, profile=self.profile).held()
-        else:
-            slots, cards, table, forecast = self.held()
-            parts = (slots + [0] * n)[:n], (cards + [0] * n)[:n], (table + [0] * size)[:size], forecast
-        return dict(zip(("target", "target_cards", "target_table", "target_forecast"), parts))
-
-    def some_target(self):
-        """Mostly of the hand's own height."""
-        return self.target(self.rng.choice((self.h, self.h, self.rng.choice(HEIGHTS))))
-
-    def held(self):
-        return self.list, self.cards, self.table, self.forecast
-
-    def lend(self, call, number=0, requests=b"", room=0, profile=None, card=None, target=None):
+    def lend(self, call, number=0, requests=b"", room=0, profile=None, card=None):
         """A call with all that it takes; its reply is at times longer than listed."""
         reply = self.junk(oracle.LISTED[call] + self.rng.choice((0, 0, 1, 3)))
         profile = self.named() if profile is None else profile
@@ -112,8 +85,6 @@ class Hand:
             lent.requests, lent.totals = requests, self.totals
         if call == "scan":
             lent.output, lent.output_cards = self.junk(room), self.junk_cards(self.room_beside(room))
-        if call == "recopy":
-            lent = replace(lent, **(target or self.some_target()))
         return lent
 
     def call(self, call, number=0, **more):
@@ -125,15 +96,6 @@ class Hand:
             self.forecast = after.forecast
         if lent.totals:
             self.totals = after.totals
-        return returned, after
-
-    def move(self, h, **more):
-        """A recopy into this height; where it is accepted, the hand goes on in the target."""
-        returned, after = yield from self.call("recopy", target=self.target(h), **more)
-        if returned == 0:
-            self.left[self.h] = self.held()
-            self.h, self.list, self.cards, self.table = h, after.target, after.target_cards, after.target_table
-            self.forecast = after.target_forecast
         return returned, after
 
     def look(self):

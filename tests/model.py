@@ -1,8 +1,7 @@
 #!/usr/bin/env python3
 """Reference model of the paper "Requirements and rules for the build", with
-the tighter profile, the counts beside the windows, the cards beside the keys
-and the recopy to another array of "Further requests from customers", (v),
-(iv), (ii) and (i).
+the tighter profile, the counts beside the windows and the cards beside the
+keys of "Further requests from customers", (v), (iv) and (ii).
 
 Section names in the comments are that paper's. Every rule is written as it is
 read there, plainly and slowly. No call changes what it is lent: each hands
@@ -32,18 +31,14 @@ back new lists.
   run(profile, slots, cards, table, forecast, data, allowance, totals)
         -> (worked, refused, moves, stop, place, slots', cards', table',
             forecast', totals')
-  recopy(profile, slots, cards, table, forecast,
-         target, target_cards, target_table)
-        -> (number, moves, target', target_cards', target_table', forecast')
-        forecast' is the target's; refused, the forecast that was lent
   first_fault(slots)             -> None or (slot, 'order' or 'gap')
   first_bad_cell(profile, slots, cards, forecast)
         -> None or (cell, reason)
 
   python3 model.py < file        the program `listrun`
 
-It is held to sums worked by hand (sums.py, carded.py, copied.py) and, on
-random requests, to a plain sorted set (plain.py).
+It is held to sums worked by hand (sums.py, carded.py) and, on random requests,
+to a plain sorted set (plain.py).
 """
 
 import itertools
@@ -405,8 +400,10 @@ def check(profile, slots, cards, table, forecast):
 
 # ---- Making, lookup, scan ------------------------------------------------
 
-def filled_refusal(slots, cards, table):
-    """What is to be filled is tested for its lengths only: 1, 12, 14."""
+def make_refusal(profile, slots, cards, table):
+    """Cards and a table to be filled are tested for their lengths only."""
+    if profile not in PROFILES:
+        return 15
     if height(slots) is None:
         return 1
     if len(cards) != len(slots):
@@ -414,12 +411,6 @@ def filled_refusal(slots, cards, table):
     if len(table) != table_size(height(slots)):
         return 14
     return 0
-
-
-def make_refusal(profile, slots, cards, table):
-    if profile not in PROFILES:
-        return 15
-    return filled_refusal(slots, cards, table)
 
 
 def make(profile, slots, cards, table):
@@ -575,58 +566,6 @@ def delete(profile, slots, cards, table, forecast, key):
     number, moves, sparse, _, slots, forecast = work_delete(profile, slots,
                                                             forecast, key)
     return (number, moves, sparse, *laid(slots, card_of), forecast)
-
-
-# ---- A full list moves to a larger array ---------------------------------
-
-def is_small(profile, count):
-    """Fewer keys than height 1's whole-array low: 26; in profile 2, 40."""
-    return count < few_keys(profile, 1)
-
-
-def fits(profile, h, count):
-    """A small list may go only to height 1; any other where it is within the
-    whole-array limits."""
-    if is_small(profile, count):
-        return h == 1
-    return within_limits(profile, h, h, count)
-
-
-def cut(h, forecast):
-    """First counts are cut to P, then cells past P dropped from the tail. Only
-    going to a smaller height is there anything to cut."""
-    P = most_cells(h)
-    cells = used_cells(forecast)
-    for cell in cells:
-        cell[2] = min(cell[2], P)
-    return as_forecast(cells[:P])
-
-
-def shared_anew(profile, h, keys, forecast):
-    """The keys of each segment of an array of height h: as a sweep of the
-    whole array; a small list in even halves, with no low share."""
-    if is_small(profile, len(keys)):
-        half = (len(keys) + 1) // 2
-        return [keys[:half], keys[half:]]
-    return share_out(profile, h, h, 0, keys, weights_of(forecast))
-
-
-def recopy(profile, slots, cards, table, forecast, target, target_cards,
-           target_table):
-    number = check(profile, slots, cards, table, forecast)
-    if number == 0:
-        number = filled_refusal(target, target_cards, target_table)
-    keys = live_keys(slots)
-    h = height(target)
-    if number == 0 and not fits(profile, h, len(keys)):
-        number = 11
-    if number != 0:
-        return (number, 0, list(target), list(target_cards),
-                list(target_table), copy_forecast(forecast))
-    forecast = cut(h, forecast)
-    copied = to_slots(shared_anew(profile, h, keys, forecast))
-    return (0, len(keys), *laid(copied, cards_of(slots, cards)),
-            retarget(forecast, copied))
 
 
 # ---- Request records and runs --------------------------------------------

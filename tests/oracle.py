@@ -4,10 +4,10 @@ from dataclasses import replace
 import model
 
 WRONG_SIZE = 100
-LISTED = dict(make=0, check=0, lookup=3, insert=1, delete=2, scan=2, run=4, recopy=1, over=4)   # the words of each call's reply
+LISTED = dict(make=0, check=0, lookup=3, insert=1, delete=2, scan=2, run=4, over=4)     # the words of each call's reply
 FORECAST = 1 + 3 * model.ROOM
 TOTALS = 4
-WITH_FORECAST = ("make", "check", "insert", "delete", "run", "recopy", "over")
+WITH_FORECAST = ("make", "check", "insert", "delete", "run", "over")
 
 
 def cells(words):
@@ -23,7 +23,6 @@ def words(forecast):
 def wrong_size(lent):
     return (lent.call in WITH_FORECAST and len(lent.forecast) != FORECAST
             or lent.call == "run" and len(lent.totals) != TOTALS
-            or lent.call == "recopy" and len(lent.target_forecast) != FORECAST
             or len(lent.reply) < LISTED[lent.call])
 
 
@@ -78,16 +77,7 @@ def run(lent):
     return stop, worked(lent, [done, refused, moves, place], totals=totals, **left(*after))
 
 
-def recopy(lent):
-    """The source stays; the target's forecast is written only when accepted."""
-    told = model.recopy(*read(lent), cells(lent.forecast), lent.target, lent.target_cards, lent.target_table)
-    number, moves, target, target_cards, target_table, forecast = told
-    target_forecast = words(forecast) if number == 0 else lent.target_forecast
-    return number, worked(lent, [moves], target=target, target_cards=target_cards, target_table=target_table,
-                          target_forecast=target_forecast)
-
-
-WORK = dict(make=make, check=check, lookup=lookup, insert=insert, delete=delete, scan=scan, run=run, recopy=recopy, over=run)
+WORK = dict(make=make, check=check, lookup=lookup, insert=insert, delete=delete, scan=scan, run=run, over=run)
 
 
 def outcome(lent):

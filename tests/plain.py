@@ -1,7 +1,6 @@
-"""The demands of the model beside this file, tried on random requests: each is held to a plain sorted set of keys with their cards, which
-holds as many as the present array allows.
+"""The demands of the model beside this file, tried on random requests: each is held to a plain sorted set of keys with their cards.
 
-    python3 tests/plain.py [COUNT [SEED]]   COUNT requests, 500 if not said, by each profile from each height on; recopies between them
+    python3 tests/plain.py [COUNT [SEED]]   COUNT requests, 500 if not said, by each profile at each height
 """
 import random
 import sys
@@ -57,13 +56,12 @@ def random_request(rng, keys, mood):
     return INSERT, rng.randint(1, TOP)
 
 
-BOUNDS = {1: (13, 32), 2: (20, 44)}     # keys to a segment of the whole list: the fewest that are not sparse, and the most
 MOODS = ('empty out', 'thin', 'rising', 'falling', 'behind one', 'before one', 'odd', 'anywhere')
 
 
 class Trial:
-    """One profile, and the height of the present array. plain: the keys with their cards; since: for each swept window, by level and first
-    segment, inserts less deletes in its left half and in its right half."""
+    """One profile and height. plain: the keys with their cards; since: for each swept window, by level and first segment, inserts less
+    deletes in its left half and in its right half."""
 
     def __init__(self, tally, rng, profile, h):
         self.same, self.rng, self.profile, self.h = tally.same, rng, profile, h
@@ -170,33 +168,6 @@ class Trial:
             self.same('split', sum(sizes[start:start + 2 ** (level - 1)]),
                       left_share_by_fractions(self.profile, self.h, level, [weights.get(k, 0) for k in inside], front))
 
-    def may_move(self, h):
-        """Whether the set may be kept in an array of height h."""
-        (few, most), count = BOUNDS[self.profile], len(self.plain)
-        return h == 1 if count < 2 * few else few * 2 ** h <= count <= most * 2 ** h
-
-    def recopy(self):
-        """To the height above, mostly, or to another, seldom to 1; the set is kept in the target then, if it may be. Counting starts afresh
-        there."""
-        h = 1 if self.rng.random() < 0.05 else max(1, min(6, self.h + self.rng.choice((1, 1, 0, -1))))
-        slots = 64 * 2 ** h
-        target = [5] * slots, [6] * slots, [7] * (slots // 32 - 1)
-        number, moves, *left = model.recopy(self.profile, *self.lent, *target)
-        if not self.may_move(h):
-            self.same('refused recopy', (number, moves, *left), (11, 0, *target, self.lent[3]))
-            return
-        cells = [[marker, left[0].index(marker) // 64 if marker else 0, min(count, 6 + h)]
-                 for marker, _, count in self.lent[3][1][:self.lent[3][0]][:6 + h]]
-        self.same('recopy', (number, moves), (0, len(self.plain)))
-        self.same('copied', (len(left[0]), *left[1:]),
-                  (slots, [self.plain.get(k, 0) for k in left[0]], window_counts(left[0]), model.as_forecast(cells)))
-        self.h, self.since, self.lent = h, {}, tuple(left)
-        if len(self.plain) < 2 * BOUNDS[self.profile][0]:
-            self.same('even halves', model.counts(left[0]), [-(-moves // 2), moves // 2])
-        else:
-            self.swept((h, 0), moves, left)
-        self.look(self.rng.choice(sorted(self.plain) or [1]))
-
     def look(self, key):
         """The check, a lookup and a scan of what the request has left."""
         slots, cards, table, forecast = self.lent
@@ -243,9 +214,7 @@ def main(args):
                 trial.look(key)
                 if n % 50 == 49:
                     in_two(tally, rng, trial, 6)
-                if n % 20 == 19:
-                    trial.recopy()
-            print('profile %d, from height %d: %d keys at the end, height %d' % (profile, h, len(trial.plain), trial.h))
+            print('profile %d, height %d: %d keys at the end' % (profile, h, len(trial.plain)))
     return tally.close()
 
 

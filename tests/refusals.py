@@ -9,7 +9,7 @@ import wire
 from hand import Hand
 from starts import TOP, spread
 
-EVERY = ("check", "lookup", "insert", "delete", "scan", "run", "recopy")
+EVERY = ("check", "lookup", "insert", "delete", "scan", "run")
 
 
 def keyed(rng, profile, h):
@@ -52,9 +52,9 @@ def lists(rng, h, n):
 def forecasts(rng, h, n):
     hand = Hand(rng, h, keyed)
     damage.FORECASTS[(2 * n + h) % len(damage.FORECASTS)](hand)
-    yield from every_call(hand, ("check", "insert", "delete", "run", "lookup", "recopy"))
+    yield from every_call(hand, ("check", "insert", "delete", "run", "lookup"))
     damage.FORECASTS[(2 * n + 1 + h) % len(damage.FORECASTS)](hand)
-    yield from every_call(hand, ("check", "insert", "delete", "run", "scan", "recopy"))
+    yield from every_call(hand, ("check", "insert", "delete", "run", "scan"))
 
 
 def cards(rng, h, n):
@@ -64,7 +64,7 @@ def cards(rng, h, n):
     damage.CARDS[(n + h) % len(damage.CARDS)](hand)
     yield from every_call(hand)
     rng.choice(damage.ORDER)(hand)
-    yield from every_call(hand, ("check", "insert", "run", "lookup", "scan", "recopy"))
+    yield from every_call(hand, ("check", "insert", "run", "lookup", "scan"))
     yield from hand.call("make", profile=hand.profile)
     yield from every_call(hand, ("check", "insert", "scan"))
 
@@ -76,7 +76,7 @@ def tables(rng, h, n):
     yield from every_call(hand)
     more = damage.FORECASTS + damage.ORDER
     more[(n + h) % len(more)](hand)
-    yield from every_call(hand, ("check", "insert", "run", "lookup", "recopy"))
+    yield from every_call(hand, ("check", "insert", "run", "lookup"))
     yield from hand.call("make", profile=hand.profile)
     yield from every_call(hand, ("check", "insert", "scan"))
 
@@ -138,13 +138,11 @@ def unknown(rng, h, n):
 def wrong_sizes(call):
     """Each slice of this call with the sizes that it must not have."""
     listed = oracle.LISTED[call]
-    sizes = [("reply", n) for n in (0, listed - 1) if 0 <= n < listed]
+    sizes = [("reply", n) for n in sorted({0, listed - 1}) if 0 <= n < listed]
     if call in oracle.WITH_FORECAST:
         sizes += [("forecast", n) for n in (36, 38, 0, 1, 36, 38)]
     if call == "run":
         sizes += [("totals", n) for n in (3, 5, 0)]
-    if call == "recopy":
-        sizes += [("target_forecast", n) for n in (36, 38, 0, 1, 36, 38)]
     return sizes
 
 
@@ -156,15 +154,15 @@ def resized(hand, lent, name, n):
 
 
 def sizes(rng, h, n):
-    """Wrong sizes come before all else, on good lists and on bad ones, by the hand's profile and by any; longer replies are taken."""
-    hand = Hand(rng, h, keyed, model.PROFILES[(n + h) % 2])
+    """Wrong sizes come before all else, on good lists and on bad ones, by any profile; longer replies are taken."""
+    hand = Hand(rng, h, keyed)
     if n % 2:
         rng.choice(damage.LISTS + damage.CARDS + damage.TABLES + damage.FORECASTS)(hand)
     for call in rng.sample(wire.CALLS, len(wire.CALLS)):
-        lent = hand.lend(call, some_number(hand, call), requests=hand.packed("insert", hand.a_key()), room=3, profile=hand.profile)
-        for name, size in rng.sample(wrong_sizes(call), 3 if call == "recopy" else 2):
+        lent = hand.lend(call, some_number(hand, call), requests=hand.packed("insert", hand.a_key()), room=3,
+                         profile=rng.choice((hand.profile, hand.profile, rng.choice(model.UNKNOWN))))
+        for name, size in rng.sample(wrong_sizes(call), 2):
             yield resized(hand, lent, name, size)
-            lent = replace(lent, profile=rng.choice((hand.profile, rng.choice(model.UNKNOWN))))
         yield resized(hand, lent, "reply", oracle.LISTED[call] + rng.randint(1, 9))
 
 

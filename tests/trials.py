@@ -24,8 +24,6 @@ first. What each does to what is lent, and the line that it writes (with 0 where
     12 entry    entry x of the table becomes y. Ignored where there is none.
     13 lent     x entries of the table and y cards are lent from now on. Ignored where x is over 256 or y over 8,192.
     14 card     card x becomes y. Ignored where there is none.
-    15 recopy   x slots, y entries and z cards of other arrays, every one of them 7, are the target: "recopy NUMBER MOVES 0 0". Where it is done the target, copied over the first arrays, is what is lent from now on, with its forecast.
-                Ignored, with no line, where x or z is over 8,192 or y over 256.
 
 Any other number is ignored.
 """
@@ -43,26 +41,16 @@ MOST = 65536 // 25
 
 SLOTS, ENTRIES = 8192, 256
 
-MAKE, INSERT, DELETE, LOOKUP, SCAN, CHECK, POKE, CELL, USED, SHOW, PROFILE, ENTRY, LENT, CARD, RECOPY = range(1, 16)
+MAKE, INSERT, DELETE, LOOKUP, SCAN, CHECK, POKE, CELL, USED, SHOW, PROFILE, ENTRY, LENT, CARD = range(1, 15)
 
 
 def command(ask, x=0, y=0, z=0):
     return struct.pack(">BQQQ", ask, x, y, z)
 
 
-def entries_for(slots):
-    """As many as so many slots ask for."""
-    return max(0, 2 * (slots // 64) - 1)
-
-
 def made(slots):
     """A make of so many slots, with as many entries and cards as they ask for."""
-    return command(MAKE, slots, entries_for(slots), slots)
-
-
-def recopied(slots):
-    """A recopy into so many slots, with as many entries and cards as they ask for."""
-    return command(RECOPY, slots, entries_for(slots), slots)
+    return command(MAKE, slots, max(0, 2 * (slots // 64) - 1), slots)
 
 
 def inserted(key):
@@ -83,15 +71,6 @@ def shown():
     return [command(SHOW)]
 
 
-def moved(*lengths):
-    """A recopy into each of these, shown."""
-    return sum([[recopied(slots)] + shown() for slots in lengths], [])
-
-
-def deleted(*keys):
-    return [command(DELETE, key) for key in keys]
-
-
 def up(n, step=10, start=10):
     return [inserted(start + step * i) for i in range(n)]
 
@@ -105,27 +84,15 @@ def hammer(n, base):
     return [inserted(base + n - i) for i in range(n)]
 
 
-def storm(first, last):
-    """The deletes of these keys of `up`, in order."""
-    return deleted(*range(10 * first, 10 * last + 10, 10))
-
-
 def sequences():
-    """Inserts and deletes at several heights, in several orders, with recopies between."""
-    # full at 64 keys, it goes on at height 2, and back when few are left
-    out = [made(128)] + up(66) + shown() + moved(512, 256) + up(6, start=650) + shown()
-    out += storm(1, 60) + shown() + moved(256, 128) + up(2, start=605) + shown()
-    # 26 keys, then 25, which are few: their marks weigh nothing; the last of eight cells goes, and one count becomes 7
-    out += [made(512)] + up(70) + shown() + storm(1, 44) + [cell(2, 470, 0, 9), cell(7, 0, 0, 9)] + moved(128)
-    out += storm(45, 45) + moved(256, 128) + storm(46, 60) + shown()
-    # too few keys for height 6 and too many for 1; then twelve cells, where height 1 has seven, and counts over 7
-    out += [made(4096)] + up(70) + shown() + moved(4096, 128) + storm(1, 30)
-    out += [cell(0, 690, 1, 12), cell(5, 590, 1, 9), cell(6, 0, 0, 8)] + moved(128) + storm(31, 60) + shown()
-    # two markers of great weight, the front among them
-    out += [made(256)] + down(70) + hammer(40, 100000) + shown() + [cell(1, 0, 0, 5), command(USED, 2)] + moved(256, 512) + up(3, start=701)
-    # 129 keys, one more than height 2 has room for
+    """Inserts and deletes at several heights, in several orders."""
+    out = []
+    for h in (1, 3, 6):
+        out += [made(64 << h)] + up(70) + shown()
+        out += [command(DELETE, 10 + 10 * i) for i in range(0, 60)] + shown()
+    out += [made(256)] + down(70) + hammer(40, 100000) + shown()
     out += [made(512)] + up(100, 1000) + [inserted(50010 + i) for i in range(30)] + shown()
-    return out + moved(512, 256) + deleted(10) + moved(256) + [inserted(50000)] + deleted(50038) + [inserted(50000)] + shown()
+    return out
 
 
 def pinned():
@@ -157,14 +124,12 @@ def mixed(rng, profile, h, n):
                 keys.remove(key)
         elif kind < 0.91:
             out.append(command(LOOKUP, rng.choice(keys) if rng.random() < 0.6 else rng.randint(0, 2 ** 64 - 1)))
-        elif kind < 0.95:
-            out.append(recopied(64 << rng.choice((1, 1, 2))))
         else:
             out.append(command(SCAN, rng.choice([0] + keys), rng.randint(0, 20), rng.randint(0, 20)))
-    return out + shown() + moved(128) + [command(CHECK)]
+    return out + shown() + [command(CHECK)]
 
 
-EVERY = [command(CHECK), command(INSERT, 5, 9), command(DELETE, 5), command(LOOKUP, 5), command(SCAN, 0, 5, 6), recopied(128)]
+EVERY = [command(CHECK), command(INSERT, 5, 9), command(DELETE, 5), command(LOOKUP, 5), command(SCAN, 0, 5, 6)]
 
 
 def poked(*sizes):
@@ -177,16 +142,15 @@ def poked(*sizes):
 def second():
     """Profile 2: as many changes as the first's at two heights, its own sums, its limits, and its lists lent by the first."""
     out = [command(PROFILE, 2)]
-    # at height 1 with 40 keys, then 39, which are few
-    out += [made(128)] + up(70) + shown() + storm(1, 30) + moved(128) + storm(31, 31) + moved(256, 128) + storm(32, 60) + shown()
-    out += [made(4096)] + up(70) + shown() + storm(1, 60) + shown()
+    for h in (1, 6):
+        out += [made(64 << h)] + up(70) + shown()
+        out += [command(DELETE, 10 + 10 * i) for i in range(0, 60)] + shown()
     for sizes in ((6, 34), (6, 35)):
         out += poked(*sizes) + [command(DELETE, 20)] + shown()
     out += poked(60, 10) + [command(DELETE, 450), inserted(450)] + shown()
     out += poked(64, 24) + [inserted(15), command(PROFILE, 1)] + EVERY + [command(PROFILE, 2), command(DELETE, 700)]
-    # full again, on at height 2, and back where it is full once more
-    out += [inserted(15), inserted(16)] + shown() + moved(512, 256) + up(3, 1, 16) + moved(128) + deleted(15, 17, 40) + moved(128)
-    return out + [inserted(17)] + shown() + [command(PROFILE, 1)]
+    out += [inserted(15)] + shown() + [command(PROFILE, 1)]
+    return out
 
 
 def unknown():
@@ -206,9 +170,8 @@ def refusals():
     out += [made(128)] + [command(ask, 0) for ask in (INSERT, DELETE, LOOKUP)]
     out += [command(DELETE, 9)] + up(64, 10) + [inserted(10), inserted(11), command(SCAN, 0, 0, 1), command(SCAN, 640, 1, 0)] + shown()
     # a key after a gap; an equal key; a smaller one; a smaller one in the next segment
-    out += [made(128)] + up(31, 10)
-    for slot, key, right in ((100, 5000, 0), (30, 300, 310), (30, 5, 310), (64, 200, 0)):
-        out += [command(POKE, slot, key)] + EVERY + shown() + [command(POKE, slot, right)]
+    for slot, key in ((100, 5000), (30, 300), (30, 5), (64, 200)):
+        out += [made(128)] + up(31, 10) + [command(POKE, slot, key)] + EVERY + shown()
     out += [made(128)] + up(20, 10) + [command(POKE, 64, 5000), command(POKE, 66, 5001)] + EVERY
     # over half as many keys as slots; then a card in a gap too
     out += [made(128)] + [command(POKE, i, 1 + i) for i in range(65)] + EVERY + [command(CARD, 127, 7)] + EVERY
@@ -285,37 +248,21 @@ def cards():
     return out + stray + [made(128)] + shown() + EVERY
 
 
-def targets():
-    """1, 12, 14 and 11 of a target, in this order and after the numbers of a check; then few keys, and none."""
-    out = [made(128)] + up(5)
-    out += [command(RECOPY, *lent) for lent in (
-        (0, 0, 0), (64, 1, 64), (129, 3, 129), (192, 5, 192), (8192, 255, 8192), (127, 4, 5), (128, 3, 127), (128, 3, 256), (128, 2, 0),
-        (128, 2, 128), (128, 4, 128), (128, 0, 128), (256, 3, 256), (256, 7, 256), (4096, 127, 4096))] + shown()
-    for damage in ([command(LENT, 4, 128)], [command(LENT, 3, 100)], [command(LENT, 3, 128), command(POKE, 6, 70)], [command(PROFILE, 0)]):
-        out += damage + [command(RECOPY, 64, 0, 5), recopied(256)]
-    out += [command(PROFILE, 1), made(512)] + moved(128)
-    for slots in (4096, 128):
-        out += [made(slots)] + up(3) + [cell(0, 20, 0, 7)] + moved(128) + up(2, 1, 21) + shown()
-    return out
-
-
 def ignored():
     """Commands that ask for what there is not; then all there is, by a make that is refused."""
     out = [made(128)] + up(5)
     out += [command(MAKE, 8193, 3, 128), command(MAKE, 128, 257, 128), command(MAKE, 128, 3, 8193), command(LENT, 257, 128)]
     out += [command(LENT, 3, 8193), command(SCAN, 0, 65, 1), command(SCAN, 0, 1, 65), command(CELL, 12, 1, 1)]
     out += [command(ask, place, 7) for ask, place in ((POKE, 128), (CARD, 128), (ENTRY, 3), (POKE, 8192), (CARD, 8192), (ENTRY, 256))]
-    out += [command(RECOPY, *lent) for lent in ((8193, 3, 128), (128, 257, 128), (128, 3, 8193))]
-    out += [command(ask, 128, 3, 128) for ask in (0, 16, 255)]
-    return out + shown() + [command(MAKE, SLOTS, ENTRIES, SLOTS), command(RECOPY, SLOTS, ENTRIES, SLOTS)] + shown()
+    out += [command(ask, 128, 3, 128) for ask in (0, 15, 255)]
+    return out + shown() + [command(MAKE, SLOTS, ENTRIES, SLOTS)] + shown()
 
 
 def commands():
     rng = random.Random(20)
-    out = sequences() + pinned() + second() + unknown() + refusals() + tables() + kept() + cards() + targets() + ignored()
-    for profile in model.PROFILES:
-        out += mixed(rng, profile, rng.randint(1, 6), 80)
-    assert len(out) <= MOST
+    out = sequences() + pinned() + second() + unknown() + refusals() + tables() + kept() + cards() + ignored()
+    while len(out) + 130 < MOST:
+        out += mixed(rng, rng.choice(model.PROFILES), rng.randint(1, 6), 100)
     return out
 
 
@@ -408,14 +355,6 @@ class Player:
         if x < self.beside:
             self.cards[x] = y
 
-    def recopy(self, x, y, z):
-        if x <= SLOTS and y <= ENTRIES and z <= SLOTS:
-            number, moves, *left = model.recopy(*self.lends(), self.forecast, [7] * x, [7] * z, [7] * y)
-            if number == 0:
-                self.length, self.beside, self.lent = x, z, y
-                self.keep(*left)
-            self.say("recopy", number, moves, 0, 0)
-
     def show(self, x, y, z):
         # keys by halving, as a segment of any content is counted
         self.say("counts", *[halved(self.slots()[s:s + 64]) for s in range(0, self.length // 64 * 64, 64)])
@@ -424,7 +363,7 @@ class Player:
         self.say("table", *self.table[:self.lent])
 
     ASKED = {MAKE: make, INSERT: insert, DELETE: delete, LOOKUP: lookup, SCAN: scan, CHECK: check, POKE: poke, CELL: cell, USED: used,
-             SHOW: show, PROFILE: named, ENTRY: entry, LENT: lend, CARD: card, RECOPY: recopy}
+             SHOW: show, PROFILE: named, ENTRY: entry, LENT: lend, CARD: card}
 
     def play(self, data):
         ask, *numbers = struct.unpack(">BQQQ", data)

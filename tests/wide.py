@@ -13,7 +13,7 @@ from hand import Hand
 from refusals import EVERY, keyed
 from starts import TOP, some_forecast, spread
 
-READING = ("check", "insert", "delete", "run", "recopy")    # a forecast
+READING = ("check", "insert", "delete", "run")      # a forecast
 STATES = 2          # all cells used that may be, or fewer
 
 
@@ -27,8 +27,7 @@ def asked(hand, call):
     """A call that would be done, but for the one word."""
     number = dict(insert=hand.a_key(), delete=hand.one_live(), run=TOP, lookup=hand.one_live()).get(call, 0)
     records = hand.packed("insert", hand.a_key()) + hand.packed("delete", hand.one_live())
-    return hand.lend(call, number, requests=records, room=3, profile=hand.profile,
-                     target=hand.target(hand.h) if call == "recopy" else None)
+    return hand.lend(call, number, requests=records, room=3, profile=hand.profile)
 
 
 def with_word(lent, place, value, name="forecast"):

@@ -8,12 +8,10 @@ from typing import Sequence
 
 HERE = os.path.dirname(os.path.abspath(__file__))
 
-CALLS = ("make", "check", "lookup", "insert", "delete", "scan", "run", "recopy")
+CALLS = ("make", "check", "lookup", "insert", "delete", "scan", "run")
 ASKED = CALLS + ("over",)       # over: a run, by the function over lent totals
-SLICES = ("list", "cards", "table", "forecast", "requests", "totals", "output", "output_cards", "target", "target_cards", "target_table",
-          "target_forecast", "reply")
-KIND = dict(list="Q", cards="I", table="Q", forecast="Q", requests="B", totals="I", output="Q", output_cards="I", target="Q",
-            target_cards="I", target_table="Q", target_forecast="Q", reply="Q")
+SLICES = ("list", "cards", "table", "forecast", "requests", "totals", "output", "output_cards", "reply")
+KIND = dict(list="Q", cards="I", table="Q", forecast="Q", requests="B", totals="I", output="Q", output_cards="I", reply="Q")
 GUARD = bytes(range(0xC0, 0xE0))
 
 
@@ -32,10 +30,6 @@ class Lent:
     totals: Sequence = ()
     output: Sequence = ()
     output_cards: Sequence = ()
-    target: Sequence = ()
-    target_cards: Sequence = ()
-    target_table: Sequence = ()
-    target_forecast: Sequence = ()
     reply: Sequence = ()
 
     def slices(self):

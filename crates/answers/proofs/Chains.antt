@@ -1,17 +1,16 @@
 -- Any chain of calls that the promises admit is what the calls of `rules` tell and leave, so demand 2 holds of it.
 use mathlib.Core.Path.{◌≡◌, refl, sym, ap, ap₂, subst, ◌∙◌}
 use mathlib.Core.List.{List, ◌∷◌}
-use Prim.Native.Nat.{ℕ}
-use lib.Dec.{eqb}
-use Rattle.lists.specs.Choice.{if◌then◌else◌}
-use Rattle.rules.specs.Profiles.{number_of}
+use Prim.Native.Nat.{ℕ, ◌*◌, ◌^◌}
+use Rattle.rules.specs.Profiles.{number_of, most}
+use Rattle.rules.specs.Shares.{shares}
 use Rattle.rules.specs.Placing.{Answer}
 use Rattle.rules.specs.Looking.{Found}
 use Rattle.demands.specs.PlainSet as set
-use Rattle.demands.specs.Demand2.{Holds, Held, told, after, all_told, after_all, made, bounds_of, ruled_all, nothing_in, moves, all_moves, IsRoom}
+use Rattle.demands.specs.Demand2.{Holds, Held, told, after, all_told, after_all, made, ruled_all, ruled_all_cards, empty_room, moves, all_moves, IsRoom}
 use Rattle.demands.proofs.Demand2.Answered.{sequence-answered}
 use Rattle.demands.proofs.Demand2.Ruled.{sequence-ruled}
-use Rattle.answers.specs.Chains.{held, Call, inserted, deleted, looked_up, scanned, recopied, Chain, none, next, Chained}
+use Rattle.answers.specs.Chains.{held, Call, inserted, deleted, looked_up, scanned, Chain, none, next, Chained}
 
 -- what a call tells, reports and leaves
 record Same (profile : ℕ) (H : Held) (a : set.Ask) (t : set.Told) (m : ℕ) (H' : Held) : Type 0 where
@@ -35,11 +34,6 @@ same-call (scanned a out cards r left left-cards p) = record {
   told = λ i. set.Scanned (p.number i) (p.written i) (p.more i) (p.output i) (p.cards-output i);
   moves = refl;
   left = refl;
-}
-same-call {H = H} (recopied target r left p) = record {
-  told = ap (λ (z : Answer). set.Recopied z.number) p.answer;
-  moves = ap (λ (z : Answer). z.moves) p.answer;
-  left = λ i. if eqb (p.answer i).number 0 then record { lent = p.lent-left i; forecast = p.forecast i } else H;
 }
 
 -- and a chain
@@ -67,9 +61,9 @@ chained p h from to L e v t r left m asks ts ms H c =
     let q = sequence-ruled p h from to L e v t asks in
     record {
       told = s.told ∙ d.0;
-      holds = subst (λ (G : Held). Holds (set.after_all (bounds_of p) asks (set.empty h)) G.lent) (sym s.left) d.1;
+      holds = subst (λ (G : Held). Holds (set.after_all (most p * 2 ^ h) asks set.empty) G.lent) (sym s.left) d.1;
       moves = s.moves ∙ q.1;
-      is-room = subst (IsRoom p (ruled_all p asks (nothing_in h))) (sym s.left) q.0;
+      is-room = subst (IsRoom (number_of p) (shares p h) (ruled_all (shares p h) asks (empty_room h)) (ruled_all_cards (shares p h) asks (empty_room h) (λ k. 0))) (sym s.left) q.0;
     }
   where
     begins : held left r.forecast ≡ made (number_of p) L

@@ -3,7 +3,7 @@ use mathlib.Core.Path.{◌≡◌, refl}
 use Prim.Native.Nat.{ℕ, ◌+◌, ◌-◌}
 use mathlib.Core.Option.{none, some}
 use mathlib.Core.Logic.{inr}
-use mathlib.Core.List.{List, [], ◌∷◌, ◌++◌, map}
+use mathlib.Core.List.{List, [], ◌∷◌, ◌++◌}
 use lib.Dec.{ltb→lt}
 use lib.ListN.{replicate}
 use Rattle.lists.specs.Lists.{without, padded}
@@ -23,10 +23,10 @@ use Rattle.rules.specs.Placing.{sweep, chosen, settled, insert_level, insert_key
 use Rattle.rules.specs.Checks.{check_cards, then_forecast, then_table, check}
 use Rattle.rules.specs.Calls.{request}
 use Rattle.rules.specs.Sums.{up_from, pair}
-use Rattle.demands.specs.History.{Event, deletes, Step, Worked}
+use Rattle.demands.specs.History.{Event, deletes}
 use Rattle.demands.specs.Demand3.{SweptAgain, counting}
-use Rattle.demands.specs.Demand3Lent.{LentAsk, Change, Lookup, Scan, done}
-use Rattle.demands.proofs.Demand3.AgainCase.{AgainCase, grows, shrinks}
+use Rattle.demands.specs.Demand3Lent.{LentAsk, Change, Lookup, Scan, lent_events}
+use Rattle.demands.proofs.Demand3.AgainCases.{AgainCase, grows, shrinks}
 
 -- the table of a list of height 1 with a and b keys in its segments
 abbrev beside : ℕ → ℕ → List ℕ
@@ -49,10 +49,6 @@ abbrev rising : ℕ → ℕ → ℕ → List ℕ → List LentAsk
 rising profile a b [] = []
 rising profile a b (y ∷ ys) = empty-handed profile a b (Insert y) ∷ rising profile a (b + 1) ys
 
--- the steps of all that is accepted
-abbrev steps_by : List LentAsk → List ℕ → List Step
-steps_by asks slots = map (λ d. d.step) (done asks slots)
-
 -- h = 1, segments 1 to 7 and 101 to 127. The front's weight leaves 13 keys in segment 0; then other forecasts are lent, and the seventh
 -- delete sweeps again. A delete of a key that is gone, one whose forecast names a key that is not there, one with a wrong table, one with a
 -- card too many and one whose profile is unknown are refused; a lookup in the other profile changes nothing.
@@ -68,10 +64,10 @@ asks =
     ∷ Scan 1 0 (0 ∷ []) (0 ∷ [])
     ∷ falling 1 13 20 (up_from 2 6 ++ (101 ∷ []))
 
-pub lent-by-deletes : AgainCase First 1 0 0 (steps_by asks (render 0 (pair 7 27).segments)) 0 7
+pub lent-by-deletes : AgainCase First 1 0 0 (lent_events asks (render 0 (pair 7 27).segments)) 0 7
 unfolding without padded predecessor segment_of weight raised tailed noted dropped retargeted left_share plan share_out sweep chosen settled insert_level insert_key delete_level delete_key outcome request check then_forecast then_table check_cards table_of order_of height_of segments_of cells forecast_of fault_at fault_of render
 lent-by-deletes = record {
-  b = Worked (shrinks 0 (some 1));
+  e₀ = shrinks 0 (some 1);
   es = replicate 6 (shrinks 0 none);
   e = shrinks 0 (some 1);
   again = record { history = refl; earlier = tt; since = tt; half = tt; again = tt };
@@ -90,7 +86,7 @@ handed-over =
 abbrev since : List Event
 since = replicate 3 (grows 1 none) ++ replicate 7 (shrinks 0 none)
 
-pub afresh : SweptAgain (steps_by handed-over (render 0 (pair 7 39).segments)) 0 0 (Worked (shrinks 0 (some 1))) since (shrinks 0 (some 1))
-    × (deletes 0 0 (counting (Worked (shrinks 0 (some 1))) since (shrinks 0 (some 1))) ≡ 8)
+pub afresh : SweptAgain (lent_events handed-over (render 0 (pair 7 39).segments)) 0 0 (shrinks 0 (some 1)) since (shrinks 0 (some 1))
+    × (deletes 0 0 (counting (shrinks 0 (some 1)) since (shrinks 0 (some 1))) ≡ 8)
 unfolding without padded predecessor segment_of weight raised tailed noted dropped retargeted left_share plan share_out sweep chosen settled insert_level insert_key delete_level delete_key outcome request check then_forecast then_table check_cards table_of order_of height_of segments_of cells forecast_of fault_at fault_of render
 afresh = (record { history = refl; earlier = tt; since = tt; half = tt; again = tt }, refl)

@@ -10,9 +10,8 @@ use Rattle.answers.specs.declared.LookupAnswer.{LookupAnswer}
 use Rattle.answers.specs.declared.ScanAnswer.{ScanAnswer}
 use Rattle.answers.specs.declared.InsertReply.{InsertReply}
 use Rattle.answers.specs.declared.DeleteReply.{DeleteReply}
-use Rattle.answers.specs.declared.RecopyReply.{RecopyReply}
-use Rattle.answers.specs.Admits.{MakeAdmits, CheckAdmits, LookupAdmits, ScanAdmits, InsertAdmits, DeleteAdmits, RecopyAdmits}
-use Rattle.answers.proofs.Papers.{make-told, check-told, lookup-told, scan-told, insert-told, delete-told, recopy-told}
+use Rattle.answers.specs.Admits.{MakeAdmits, CheckAdmits, LookupAdmits, ScanAdmits, InsertAdmits, DeleteAdmits}
+use Rattle.answers.proofs.Papers.{make-told, check-told, lookup-told, scan-told, insert-told, delete-told}
 
 -- make: the reply and what is left of what was lent
 pub make-one : (profile : ℕ) (L : Lent) (r r' : MakeReply) (left left' : Lent) → MakeAdmits profile L r left → MakeAdmits profile L r' left' → (r ≡ r') × (left ≡ left')
@@ -52,13 +51,5 @@ pub delete-one : (profile : ℕ) (L : Lent) (F : Forecast) (y : ℕ) (r r' : Del
     → (r ≡ r') × (left ≡ left')
 delete-one profile L F y r r' left left' a b = (
   λ i. record { forecast = (a.forecast ∙ sym b.forecast) i; answer = delete-told r.answer r'.answer (a.answer ∙ sym b.answer) i },
-  a.lent-left ∙ sym b.lent-left,
-)
-
--- recopy: the reply and what is left of the target
-pub recopy-one : (profile : ℕ) (L : Lent) (F : Forecast) (target : Lent) (r r' : RecopyReply) (left left' : Lent) → RecopyAdmits profile L F target r left → RecopyAdmits profile L F target r' left'
-    → (r ≡ r') × (left ≡ left')
-recopy-one profile L F target r r' left left' a b = (
-  λ i. record { forecast = (a.forecast ∙ sym b.forecast) i; answer = recopy-told r.answer r'.answer (a.answer ∙ sym b.answer) i },
   a.lent-left ∙ sym b.lent-left,
 )

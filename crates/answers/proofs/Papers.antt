@@ -14,8 +14,7 @@ use Rattle.answers.specs.declared.LookupAnswer.{LookupAnswer}
 use Rattle.answers.specs.declared.ScanAnswer.{ScanAnswer}
 use Rattle.answers.specs.declared.InsertAnswer.{InsertAnswer}
 use Rattle.answers.specs.declared.DeleteAnswer.{DeleteAnswer}
-use Rattle.answers.specs.declared.RecopyAnswer.{RecopyAnswer}
-use Rattle.answers.specs.Answers.{make_number, check_number, lookup_paper, ScanPaper, scan_paper, insert_paper, delete_paper, recopy_paper}
+use Rattle.answers.specs.Answers.{make_number, check_number, lookup_paper, ScanPaper, scan_paper, insert_paper, delete_paper}
 
 -- ANY KIND OF ANSWER: its values have a verdict's number, and verdict and values give it back; so the values tell it
 module _ {A P : Type 0} (paper : A → P) (number : P → ℕ) (of : Verdict → P → A) where
@@ -98,15 +97,3 @@ delete-back (DeleteAnswer.DeletedSparse n) = (Accepted, refl, refl)
 
 pub delete-told : (a b : DeleteAnswer) → delete_paper a ≡ delete_paper b → a ≡ b
 delete-told = told delete_paper (λ d. d.number) delete_of delete-back
-
--- RECOPY
-abbrev recopy_of : Verdict → Answer → RecopyAnswer
-recopy_of (Refused x) d = RecopyAnswer.Refused x
-recopy_of Accepted d = RecopyAnswer.Recopied d.moves
-
-recopy-back : (a : RecopyAnswer) → Back recopy_paper (λ d. d.number) recopy_of a
-recopy-back (RecopyAnswer.Refused x) = (Refused x, refl, refl)
-recopy-back (RecopyAnswer.Recopied n) = (Accepted, refl, refl)
-
-pub recopy-told : (a b : RecopyAnswer) → recopy_paper a ≡ recopy_paper b → a ≡ b
-recopy-told = told recopy_paper (λ d. d.number) recopy_of recopy-back

@@ -1,5 +1,5 @@
--- What make of the rules comes to, by the profile and the tests of what is to be filled; a lookup of a list that passes; a scan that the check
--- refuses.
+-- What make of the rules comes to, by the profile and the lengths of slots, cards and table; a lookup of a list that passes; a scan that the
+-- check refuses.
 use mathlib.Core.Path.{◌≡◌, sym, ap, ◌∙◌}
 use mathlib.Core.Bool.{true, false}
 use mathlib.Core.Logic.{◌≢◌}
@@ -8,14 +8,15 @@ use Prim.Native.Nat.{ℕ}
 use native.Mathlib.Omega.{arith}
 use borrow.Author.Tests.{eq-eqb, ne_eqb}
 use lib.ListN.{length, replicate}
-use Rattle.slots.specs.Segments.{Segments, keys}
+use Rattle.slots.specs.Segments.{Segments, keys, height_of}
 use Rattle.slots.specs.Keys.{member, segment_of}
+use Rattle.levels.specs.Tables.{table_size}
 use Rattle.forecast.specs.Cells.{forecast_of}
 use Rattle.rules.specs.declared.Refusal.{Refusal}
 use Rattle.rules.specs.Refusals.{refusal_number}
 use Rattle.rules.specs.Profiles.{is_profile}
 use Rattle.rules.specs.Lent.{Lent, lend}
-use Rattle.rules.specs.Checks.{check_read, check_filled}
+use Rattle.rules.specs.Checks.{check_read}
 use Rattle.rules.specs.Looking.{not_found, looked_up, Scanned}
 use Rattle.rules.specs.Calls.{not_made, make}
 use Rattle.demands.proofs.Refusals.Told.{refusal-some}
@@ -25,20 +26,29 @@ use Rattle.answers.specs.Admits.{ScanAdmits}
 
 -- MAKE
 module _ (profile : ℕ) (L : Lent) where
+  abbrev h : ℕ
+  h = height_of (length L.slots)
+
   pub make-unknown : is_profile profile ≡ false → make profile L ≡ not_made L 15
   unfolding make
   make-unknown k = rw k
 
-  pub make-refused : is_profile profile ≡ true → (x : Refusal) → check_filled L ≡ refusal_number x → make profile L ≡ not_made L (refusal_number x)
+  pub make-refused : is_profile profile ≡ true → h ≡ 0 → make profile L ≡ not_made L 1
   unfolding make
-  make-refused k x e =
-      let n : check_filled L ≢ 0 = omega (arith, refusal-some x) in
-      rw (k, ne_eqb (check_filled L) 0 n) (ap (not_made L) e)
+  make-refused k e = rw (k, eq-eqb h 0 e)
 
-  pub make-done : is_profile profile ≡ true → check_filled L ≡ 0
+  pub make-wrong-cards : is_profile profile ≡ true → h ≢ 0 → length L.cards ≢ length L.slots → make profile L ≡ not_made L 12
+  unfolding make
+  make-wrong-cards k n c = rw (k, ne_eqb h 0 n, ne_eqb (length L.cards) (length L.slots) c)
+
+  pub make-wrong-table : is_profile profile ≡ true → h ≢ 0 → length L.cards ≡ length L.slots → length L.table ≢ table_size h → make profile L ≡ not_made L 14
+  unfolding make
+  make-wrong-table k n c t = rw (k, ne_eqb h 0 n, eq-eqb (length L.cards) (length L.slots) c, ne_eqb (length L.table) (table_size h) t)
+
+  pub make-done : is_profile profile ≡ true → h ≢ 0 → length L.cards ≡ length L.slots → length L.table ≡ table_size h
       → make profile L ≡ record { lent = lend (replicate (length L.slots) 0) (replicate (length L.cards) 0) (replicate (length L.table) 0); forecast = forecast_of []; number = 0 }
   unfolding make
-  make-done k e = rw (k, eq-eqb (check_filled L) 0 e)
+  make-done k n c t = rw (k, ne_eqb h 0 n, eq-eqb (length L.cards) (length L.slots) c, eq-eqb (length L.table) (table_size h) t)
 
 -- LOOKUP, of a list that passes; c is the card of each key
 module _ (y : ℕ) (c : ℕ → ℕ) (ss : Segments) where

@@ -19,7 +19,6 @@ use Rattle.rules.specs.Lent.{Lent, cards_of}
 use Rattle.rules.specs.Checks.{check_cards, check_read, check}
 use Rattle.rules.specs.Looking.{not_found, Scanned, scanned}
 use Rattle.rules.specs.Calls.{Made, Called, request, unchanged, scan}
-use Rattle.rules.proofs.Filled.{filled-length}
 use Rattle.demands.proofs.Requests.Checked.{passed, keys-shown}
 use Rattle.demands.proofs.Requests.Tabled.{read-passed}
 use Rattle.demands.proofs.Requests.SingleCalls.{request-unchecked}
@@ -66,7 +65,7 @@ module _ (profile : ℕ) (known : is_profile profile ≡ true) (L : Lent) (m : M
 
   pub make-wrong : (r : MakeReply) (left : Lent) → MakeAdmits profile L r left → (r.answer ≡ MakeAnswer.Refused WrongLength) × (r.forecast ≡ forecast_of []) × (left ≡ L)
   make-wrong r left a =
-      let e = make-refused profile L known WrongLength (filled-length L no-height) in
+      let e = make-refused profile L known no-height in
       (make-told r.answer (MakeAnswer.Refused WrongLength) (a.answer ∙ ap (λ (d : Made). d.number) e), a.forecast ∙ ap (λ (d : Made). d.forecast) e, a.lent-left ∙ ap (λ (d : Made). d.lent) e)
 
   pub check-wrong : (F : Forecast) (r : CheckAnswer) → CheckAdmits profile L F r → r ≡ CheckAnswer.Refused WrongLength

@@ -10,8 +10,7 @@ use Rattle.answers.specs.declared.LookupAnswer.{LookupAnswer}
 use Rattle.answers.specs.declared.ScanAnswer.{ScanAnswer}
 use Rattle.answers.specs.declared.InsertReply.{InsertReply}
 use Rattle.answers.specs.declared.DeleteReply.{DeleteReply}
-use Rattle.answers.specs.declared.RecopyReply.{RecopyReply}
-use Rattle.answers.specs.Answers.{make_number, check_number, lookup_paper, scan_paper, insert_paper, delete_paper, recopy_paper}
+use Rattle.answers.specs.Answers.{make_number, check_number, lookup_paper, scan_paper, insert_paper, delete_paper}
 
 -- make: the profile's number, what is lent (slots, cards and table), the reply, and what is left of it
 pub record MakeAdmits (profile : ℕ) (L : Lent) (r : MakeReply) (left : Lent) : Type 0 where
@@ -43,9 +42,3 @@ pub record DeleteAdmits (profile : ℕ) (L : Lent) (F : Forecast) (y : ℕ) (r :
   pub answer : delete_paper r.answer ≡ (rules.delete profile L F y).answer
   pub forecast : r.forecast ≡ (rules.delete profile L F y).forecast
   pub lent-left : left ≡ (rules.delete profile L F y).lent
-
--- recopy: from L into the target; what is left of the target
-pub record RecopyAdmits (profile : ℕ) (L : Lent) (F : Forecast) (target : Lent) (r : RecopyReply) (left : Lent) : Type 0 where
-  pub answer : recopy_paper r.answer ≡ (rules.recopy profile L F target).answer
-  pub forecast : r.forecast ≡ (rules.recopy profile L F target).forecast
-  pub lent-left : left ≡ (rules.recopy profile L F target).lent

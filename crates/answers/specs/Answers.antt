@@ -9,7 +9,6 @@ use Rattle.answers.specs.declared.LookupAnswer.{LookupAnswer}
 use Rattle.answers.specs.declared.ScanAnswer.{ScanAnswer}
 use Rattle.answers.specs.declared.InsertAnswer.{InsertAnswer}
 use Rattle.answers.specs.declared.DeleteAnswer.{DeleteAnswer}
-use Rattle.answers.specs.declared.RecopyAnswer.{RecopyAnswer}
 
 abbrev pub make_number : MakeAnswer → ℕ
 make_number (MakeAnswer.Refused x) = refusal_number x
@@ -43,7 +42,3 @@ abbrev pub delete_paper : DeleteAnswer → Answer
 delete_paper (DeleteAnswer.Refused x) = refused (refusal_number x)
 delete_paper (DeleteAnswer.Deleted n) = record { number = 0; moves = n; sparse = false }
 delete_paper (DeleteAnswer.DeletedSparse n) = record { number = 0; moves = n; sparse = true }
-
-abbrev pub recopy_paper : RecopyAnswer → Answer
-recopy_paper (RecopyAnswer.Refused x) = refused (refusal_number x)
-recopy_paper (RecopyAnswer.Recopied n) = record { number = 0; moves = n; sparse = false }

@@ -1,22 +1,21 @@
 -- Demand 2 over the promises themselves: calls one after the other, in one profile, each on the list, the cards, the table and the forecast
 -- that the call before it left.
-use Rattle.std.specs.Prelude.{ℕ, ◌*◌, ◌^◌, ◌≤◌, ◌≡◌, List, [], ◌∷◌, eqb, length}
-use Rattle.lists.specs.Choice.{if◌then◌else◌}
+use Rattle.std.specs.Prelude.{ℕ, ◌*◌, ◌^◌, ◌≤◌, ◌≡◌, List, [], ◌∷◌, length}
 use Rattle.levels.specs.Tables.{table_size}
 use Rattle.forecast.specs.declared.Forecast.{Forecast}
 use Rattle.rules.specs.declared.Profile.{Profile}
-use Rattle.rules.specs.Profiles.{number_of}
+use Rattle.rules.specs.Profiles.{number_of, most, fewest}
+use Rattle.rules.specs.Shares.{shares}
 use Rattle.demands.specs.PlainSet as set
 use Rattle.rules.specs.Lent.{Lent}
-use Rattle.demands.specs.Demand2.{Holds, Held, bounds_of, ruled_all, all_ruled_moves, nothing_in, IsRoom}
+use Rattle.demands.specs.Demand2.{Holds, Held, ruled_all, all_ruled_moves, ruled_all_cards, empty_room, IsRoom}
 use Rattle.answers.specs.declared.MakeReply.{MakeReply}
 use Rattle.answers.specs.declared.LookupAnswer.{LookupAnswer}
 use Rattle.answers.specs.declared.ScanAnswer.{ScanAnswer}
 use Rattle.answers.specs.declared.InsertReply.{InsertReply}
 use Rattle.answers.specs.declared.DeleteReply.{DeleteReply}
-use Rattle.answers.specs.declared.RecopyReply.{RecopyReply}
-use Rattle.answers.specs.Answers.{lookup_paper, scan_paper, insert_paper, delete_paper, recopy_paper}
-use Rattle.answers.specs.Admits.{MakeAdmits, LookupAdmits, ScanAdmits, InsertAdmits, DeleteAdmits, RecopyAdmits}
+use Rattle.answers.specs.Answers.{lookup_paper, scan_paper, insert_paper, delete_paper}
+use Rattle.answers.specs.Admits.{MakeAdmits, LookupAdmits, ScanAdmits, InsertAdmits, DeleteAdmits}
 
 abbrev pub held : Lent → Forecast → Held
 held L F = record { lent = L; forecast = F }
@@ -32,10 +31,6 @@ pub data Call (profile : ℕ) (H : Held) : set.Ask → set.Told → ℕ → Held
       → Call profile H (set.Lookup y) (set.Found (lookup_paper r).number (lookup_paper r).present (lookup_paper r).card) 0 H
   scanned : (a : ℕ) (out cards : List ℕ) (r : ScanAnswer) (left left-cards : List ℕ) → ScanAdmits profile H.lent a out cards r left left-cards
       → Call profile H (set.Scan a out cards) (set.Scanned (scan_paper r).number (scan_paper r).written (scan_paper r).more left left-cards) 0 H
-  -- accepted, it goes on with the target and its forecast; refused, with what was lent
-  recopied : (target : Lent) (r : RecopyReply) (left : Lent) → RecopyAdmits profile H.lent H.forecast target r left
-      → Call profile H (set.Recopy target.slots target.cards target.table) (set.Recopied (recopy_paper r.answer).number) (recopy_paper r.answer).moves
-      (if eqb (recopy_paper r.answer).number 0 then held left r.forecast else H)
 
 -- Calls in order: all that was asked, told and reported, and what the last one left.
 pub data Chain (profile : ℕ) : Held → List set.Ask → List set.Told → List ℕ → Held → Type 0 where
@@ -46,10 +41,10 @@ pub data Chain (profile : ℕ) : Held → List set.Ask → List set.Told → Lis
 -- It tells the plain set's answers and leaves its keys with their cards; the moves, the slots, the table and the forecast are those of the
 -- rules from an empty list.
 pub record Answered (p : Profile) (h : ℕ) (asks : List set.Ask) (ts : List set.Told) (ms : List ℕ) (H : Held) : Type 0 where
-  pub told : ts ≡ set.all_told (bounds_of p) asks (set.empty h)
-  pub holds : Holds (set.after_all (bounds_of p) asks (set.empty h)) H.lent
-  pub moves : ms ≡ all_ruled_moves p asks (nothing_in h)
-  pub is-room : IsRoom p (ruled_all p asks (nothing_in h)) H
+  pub told : ts ≡ set.all_told (most p * 2 ^ h) (fewest p * 2 ^ h) asks set.empty
+  pub holds : Holds (set.after_all (most p * 2 ^ h) asks set.empty) H.lent
+  pub moves : ms ≡ all_ruled_moves (shares p h) asks (empty_room h)
+  pub is-room : IsRoom (number_of p) (shares p h) (ruled_all (shares p h) asks (empty_room h)) (ruled_all_cards (shares p h) asks (empty_room h) (λ k. 0)) H
 
 -- Any chain after any outcome of make, in either profile, on an array of a permitted length with cards and a table of its size.
 abbrev pub Chained : Type 0

@@ -62,17 +62,3 @@ pub struct DeleteReply {
     pub forecast: Forecast,
     pub answer: DeleteAnswer,
 }
-
-// With the moves: the keys copied.
-#[derive(Drop)]
-pub enum RecopyAnswer {
-    Refused(Refusal),
-    Recopied(u64),
-}
-
-// The forecast is that of the target; of what was lent, where the recopy is refused.
-#[derive(Drop)]
-pub struct RecopyReply {
-    pub forecast: Forecast,
-    pub answer: RecopyAnswer,
-}

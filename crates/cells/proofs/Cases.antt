@@ -6,7 +6,7 @@ use lib.ListN.{length}
 use Rattle.lists.specs.Lists.{without}
 use Rattle.cells.specs.declared.Cell.{Cell}
 use Rattle.cells.specs.Cells.{cell, weight}
-use Rattle.cells.specs.Steps.{raised, tailed, noted, dropped, cut_to}
+use Rattle.cells.specs.Steps.{raised, tailed, noted, dropped}
 
 -- PLACES
 -- noted, the cell in third place moves to second, its count one more; the others stay in order
@@ -86,15 +86,3 @@ drop-middle = (refl, refl)
 pub weighs : (weight (cell 20 2 3 ∷ cell 0 0 4 ∷ []) 20 ≡ 3) × (weight (cell 20 2 3 ∷ cell 0 0 4 ∷ []) 0 ≡ 4) × (weight (cell 20 2 3 ∷ cell 0 0 4 ∷ []) 10 ≡ 0)
 unfolding weight
 weighs = (refl, refl, refl)
-
--- CUTTING
--- of height 2, to P = 7: a count of 8 is cut, and the eighth cell from the head goes
-pub cut-eight : cut_to 7 (cell 10 0 8 ∷ cell 20 1 2 ∷ cell 30 1 7 ∷ cell 40 2 3 ∷ cell 50 2 1 ∷ cell 60 3 8 ∷ cell 70 3 4 ∷ cell 80 3 5 ∷ [])
-    ≡ cell 10 0 7 ∷ cell 20 1 2 ∷ cell 30 1 7 ∷ cell 40 2 3 ∷ cell 50 2 1 ∷ cell 60 3 7 ∷ cell 70 3 4 ∷ []
-unfolding cut_to
-cut-eight = refl
-
--- to a larger P nothing changes
-pub cut-larger : cut_to 12 (cell 10 0 7 ∷ cell 0 0 1 ∷ []) ≡ cell 10 0 7 ∷ cell 0 0 1 ∷ []
-unfolding cut_to
-cut-larger = refl

@@ -15,7 +15,7 @@ use Rattle.cells.specs.Cells.{cell, zero_cell, cell_at}
 use Rattle.cells.specs.Steps.{raised, tailed, noted, dropped, aimed, retargeted}
 use Rattle.cells.proofs.Laws.{found-marks, marked-found, noted-raised, noted-spent, noted-new, noted-full, raised-head, raised-past, tailed-gone, tailed-less, dropped-is, retargeted-is}
 use Rattle.cells.proofs.Ruled.{marker_at, Apart, Counted, Ruled, Placed, From, ruled-from}
-use Rattle.cells.proofs.Origins.{from-set, from-swap, from-take, from-without, from-map}
+use Rattle.cells.proofs.Origins.{from-set, from-swap, from-take, from-without, from-aimed}
 
 module _ (P : ℕ) (L : ℕ → Type 0) (cs : List Cell) (R : Ruled P L cs) where
   -- one cell is set
@@ -115,6 +115,6 @@ dropped-ruled P L L' y cs R f =
 pub retargeted-ruled : (place : ℕ → ℕ) (P : ℕ) (L : ℕ → Type 0) (cs : List Cell) → Ruled P L cs → Ruled P L (retargeted place cs) × Placed place (retargeted place cs)
 retargeted-ruled place P L cs R =
     subst (λ (ds : List Cell). Ruled P L ds × Placed place ds) (sym (retargeted-is place cs)) (
-      ruled-from P L (map (aimed place) cs) cs (from-map (aimed place) (λ c. refl) cs) R (map-all (Counted P) (aimed place) cs R.counts),
+      ruled-from P L (map (aimed place) cs) cs (from-aimed place cs) R (map-all (Counted P) (aimed place) cs R.counts),
       map-all (λ c. c.segment ≡ place c.marker) (aimed place) cs (λ c m. refl),
     )

@@ -3,5 +3,4 @@ pub mod Laws
 pub mod Ruled
 pub mod Origins
 pub mod Kept
-pub mod Cut
 pub mod Cases

@@ -1,4 +1,4 @@
--- Where the markers of changed cells come from: cells set, swapped, taken, removed and changed.
+-- Where the markers of changed cells come from: cells set, swapped, taken, removed and aimed.
 use mathlib.Core.Path.{◌≡◌, refl, sym, ap, ◌∙◌, subst}
 use mathlib.Core.Bool.{Bool, true, false, not}
 use mathlib.Core.Logic.{◌≢◌}
@@ -15,6 +15,7 @@ use Rattle.lists.proofs.Maps.{get_d_map}
 use Rattle.lists.proofs.Fill.{length_without}
 use Rattle.cells.specs.declared.Cell.{Cell}
 use Rattle.cells.specs.Cells.{zero_cell}
+use Rattle.cells.specs.Steps.{aimed}
 use Rattle.cells.proofs.Ruled.{marker_at, From}
 
 marker-is : (a b : Cell) → a ≡ b → a.marker ≡ b.marker
@@ -129,12 +130,12 @@ from-without at cs h = (
         ∙ get_or-drop (suc at) cs (k - at) zero_cell ∙ ap (λ (j : ℕ). get_or cs j zero_cell) d
         )
 
--- every cell changed, but for its marker
-pub from-map : (f : Cell → Cell) → ((c : Cell) → (f c).marker ≡ c.marker) → (cs : List Cell) → From (map f cs) cs
-from-map f e cs = record {
-  fewer = omega (arith, length-map cs f);
+-- every cell aimed anew
+pub from-aimed : (place : ℕ → ℕ) (cs : List Cell) → From (map (aimed place) cs) cs
+from-aimed place cs = record {
+  fewer = omega (arith, length-map cs (aimed place));
   origin = λ k. k;
-  inside = λ k h. omega (arith, length-map cs f);
-  same = λ k h. marker-is _ _ (get_d_map f cs k zero_cell zero_cell (omega (arith, length-map cs f))) ∙ e (get_or cs k zero_cell);
+  inside = λ k h. omega (arith, length-map cs (aimed place));
+  same = λ k h. marker-is _ _ (get_d_map (aimed place) cs k zero_cell zero_cell (omega (arith, length-map cs (aimed place))));
   one = λ k l e. e;
 }

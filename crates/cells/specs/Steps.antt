@@ -1,5 +1,5 @@
--- Document 01, "The forecast": what an insert notes, what a delete drops, and where cells aim. Document 02, (i): what is cut.
-use Rattle.std.specs.Prelude.{ℕ, ◌+◌, ◌-◌, min, List, ◌∷◌, map, leb, ltb, eqb, length, take, get_or, set}
+-- Document 01, "The forecast": what an insert notes, what a delete drops, and where cells aim.
+use Rattle.std.specs.Prelude.{ℕ, ◌+◌, ◌-◌, List, ◌∷◌, map, leb, ltb, eqb, length, take, get_or, set}
 use Rattle.lists.specs.Choice.{if◌then◌else◌}
 use Rattle.lists.specs.Lists.{without}
 use Rattle.cells.specs.declared.Cell.{Cell}
@@ -37,7 +37,3 @@ aimed place c = cell c.marker (place c.marker) c.count
 
 unfoldable pub retargeted : (ℕ → ℕ) → List Cell → List Cell
 retargeted place = map (aimed place)
-
--- Going to a smaller height: counts are first cut to the new P, and cells past P are dropped from the tail. (Else nothing changes.)
-unfoldable pub cut_to : ℕ → List Cell → List Cell
-cut_to P cs = take P (map (λ c. with_count (min c.count P) c) cs)

@@ -7,13 +7,6 @@ use Rattle.demands.proofs.Running.Runs.{run-refused, run-stops}
 use Rattle.demands.proofs.Running.Singly.{run-tells, run-is-singly, run-keeps}
 use Rattle.demands.proofs.Running.InTwo.{run-in-two}
 use Rattle.demands.proofs.Requests.SingleCalls.{request-keeps}
-use Rattle.demands.proofs.Recopying.Refusing.{recopy-tells, recopy-refused}
-use Rattle.demands.proofs.Recopying.OneCall.{recopy-keeps}
-use Rattle.demands.proofs.Recopying.Fits.{some_fits, next_fits}
-use Rattle.demands.proofs.Recopying.SmallHalves.{small_halves}
-use Rattle.demands.proofs.Recopying.CutCells.{cells_cut}
-use Rattle.demands.proofs.Recopying.Sown.{inside-recopied, recopy-aims}
-use Rattle.demands.proofs.Recopying.InsideLent.{lent-inside-recopied}
 use Rattle.demands.proofs.Sets.PlainSet.{is_set}
 use Rattle.demands.proofs.Demand2.Mixed.{mixed-answered}
 use Rattle.demands.proofs.Demand2.Answered.{sequence-answered}
@@ -26,8 +19,7 @@ use Rattle.demands.proofs.Requests.KeysKept.{keys_kept, cells-aim}
 use Rattle.demands.proofs.Demand3.Inside.{inside-kept}
 use Rattle.demands.proofs.Demand3.Told.{sweeps-told}
 use Rattle.demands.proofs.Demand3.Again.{swept-again}
-use Rattle.demands.proofs.Demand3.Lent.{lent-inside}
-use Rattle.demands.proofs.Demand3.LentAgain.{lent_again}
+use Rattle.demands.proofs.Demand3.Lent.{lent-inside, lent_again}
 use Rattle.rules.proofs.Cases.Sums.{sums}
 
 pub demands : Demands
@@ -39,22 +31,17 @@ demands = record {
   scan-tells = scan-tells;
   insert-tells = insert-tells;
   delete-tells = delete-tells;
-  recopy-tells = recopy-tells;
   run-tells = run-tells;
   request-refused = request-refused;
   lookup-refused = lookup-refused;
   scan-refused = scan-refused;
   make-refused = make-refused;
-  recopy-refused = recopy-refused;
   run-refused = run-refused;
   run-stops = run-stops;
   run-is-singly = run-is-singly;
   run-in-two = run-in-two;
   request-keeps = request-keeps;
   run-keeps = run-keeps;
-  recopy-keeps = recopy-keeps;
-  some_fits = some_fits;
-  next_fits = next_fits;
   is-set = is_set;
   sequence-answered = sequence-answered;
   mixed-answered = mixed-answered;
@@ -68,13 +55,8 @@ demands = record {
   climb-is = climb-is;
   insert-finds = insert-always-finds;
   cells-aim = cells-aim;
-  small_halves = small_halves;
-  cells_cut = cells_cut;
-  recopy-aims = recopy-aims;
   inside = inside-kept;
   lent-inside = lent-inside;
-  inside-recopied = inside-recopied;
-  lent-inside-recopied = lent-inside-recopied;
   keys_kept = keys_kept;
   sizes-kept = sizes-kept;
   sweeps-told = sweeps-told;

@@ -2,7 +2,6 @@ pub mod Sharing
 pub mod Cards
 pub mod Sweeping
 pub mod Requests
-pub mod Recopying
 pub mod Demand3
 pub mod Sets
 pub mod Refusals

@@ -1,6 +1,5 @@
 -- The plain sorted set, and the calls beside it.
 pub mod SetLaws
-pub mod SetRecopy
 pub mod PlainSet
 pub mod SetCards
 pub mod SetScan

@@ -2,12 +2,11 @@
 use Rattle.demands.specs.Demand1.{MakeTells, CheckTells, CheckPasses, LookupTells, ScanTells, InsertTells, DeleteTells, RunTells}
 use Rattle.demands.specs.Demand1.{RequestRefused, LookupRefused, ScanRefused, MakeRefused, RunRefused, RunStops, RunIsSingly, RunInTwo}
 use Rattle.demands.specs.Demand1.{RequestKeeps, RunKeeps}
-use Rattle.demands.specs.Recopies.{RecopyTells, RecopyRefused, RecopyKeeps, SomeFits, NextFits, SmallHalves, CellsCut, RecopyAims}
 use Rattle.demands.specs.Demand2.{IsSet, SequenceAnswered, RequestRuled, SequenceRuled}
 use Rattle.demands.specs.Demand2Mixed.{MixedAnswered}
 use Rattle.rules.specs.Readings.{Table, TableLawful, CountsAre, SplitIs, NoZero, ClimbIs, InsertFinds, CellsAim}
-use Rattle.demands.specs.Demand3.{Inside, InsideRecopied, KeysKept, SizesKept, SweepsTold, Again}
-use Rattle.demands.specs.Demand3Lent.{LentInside, LentInsideRecopied, LentAgain}
+use Rattle.demands.specs.Demand3.{Inside, KeysKept, SizesKept, SweepsTold, Again}
+use Rattle.demands.specs.Demand3Lent.{LentInside, LentAgain}
 use Rattle.rules.specs.Sums.{Sums}
 
 pub record Demands : Type 0 where
@@ -21,14 +20,12 @@ pub record Demands : Type 0 where
   pub scan-tells : ScanTells
   pub insert-tells : InsertTells
   pub delete-tells : DeleteTells
-  pub recopy-tells : RecopyTells
   pub run-tells : RunTells
   -- "A refused request gives its number and zero moves and changes neither list nor forecast;
   pub request-refused : RequestRefused
   pub lookup-refused : LookupRefused
   pub scan-refused : ScanRefused
   pub make-refused : MakeRefused
-  pub recopy-refused : RecopyRefused
   pub run-refused : RunRefused
   -- a run that stops keeps exactly the requests worked before the stop."
   pub run-stops : RunStops
@@ -37,15 +34,11 @@ pub record Demands : Type 0 where
   -- What passes the check passes it again after every call.
   pub request-keeps : RequestKeeps
   pub run-keeps : RunKeeps
-  -- A recopy's target passes it too, with the source's keys and cards; every count fits some height, and a full list the next.
-  pub recopy-keeps : RecopyKeeps
-  pub some_fits : SomeFits
-  pub next_fits : NextFits
   -- DEMAND 2. "Any sequence of inserts, deletes, lookups and scans on a list made empty is answered as a plain sorted set of at most half as
   -- many keys as slots would answer.
   pub is-set : IsSet
   pub sequence-answered : SequenceAnswered
-  -- (Recopies are in the sequence too: the set keeps to its present array.) The same with a profile for each ask.
+  -- The same with a profile for each ask.
   pub mixed-answered : MixedAnswered
   -- After each request the slots, the forecast and the reported moves are those of the paper's rules
   pub request-ruled : RequestRuled
@@ -59,16 +52,10 @@ pub record Demands : Type 0 where
   pub climb-is : ClimbIs
   pub insert-finds : InsertFinds
   pub cells-aim : CellsAim
-  pub small_halves : SmallHalves
-  pub cells_cut : CellsCut
-  pub recopy-aims : RecopyAims
   -- DEMAND 3. "After a sweep, every window strictly inside the swept one holds at least the low and at most the high share of its parent's
   -- level, times its segments, whatever the forecast said." Over any lawful shares, and of the public calls on what they are lent.
   pub inside : Inside
   pub lent-inside : LentInside
-  -- A recopy that is not small is a sweep of the whole target.
-  pub inside-recopied : InsideRecopied
-  pub lent-inside-recopied : LentInsideRecopied
   -- A sweep loses no key and overfills no segment, and is told exactly where a window was chosen.
   pub keys_kept : KeysKept
   pub sizes-kept : SizesKept
@@ -76,7 +63,7 @@ pub record Demands : Type 0 where
   -- "Suppose a request falling in one half of a window sets off a sweep of that window, and the window was swept before. Counting from its
   -- latest earlier sweep, with only inserts and deletes since, that half has taken more inserts than deletes by over the gap between the two
   -- levels' high shares times its segments, or more deletes than inserts by over the gap between the low shares times its segments. The
-  -- request itself counts; the one that set off the earlier sweep doesn't." Again in both forms; the earlier sweep may be a recopy's.
+  -- request itself counts; the one that set off the earlier sweep doesn't." Again in both forms.
   pub again : Again
   pub lent_again : LentAgain
   -- Document 01, "Sums to check", 1 to 9.

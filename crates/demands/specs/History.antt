@@ -1,4 +1,4 @@
--- Requests one after the other, and recopies, as demand 3 speaks of them.
+-- Requests one after the other, as demand 3 speaks of them.
 use Rattle.std.specs.Prelude.{ℕ, ◌+◌, Bool, true, false, not, ◌&&◌, ◌||◌, List, [], ◌∷◌, leb, eqb}
 use Rattle.std.proofs.Math.Option.{Option, none, some}
 use Rattle.lists.specs.Choice.{if◌then◌else◌}
@@ -47,16 +47,6 @@ inserts l s (e ∷ es) = (if falls_in l s e && e.grows then 1 else 0) + inserts 
 abbrev pub deletes : ℕ → ℕ → List Event → ℕ
 deletes l s [] = 0
 deletes l s (e ∷ es) = (if falls_in l s e && not e.grows then 1 else 0) + deletes l s es
-
--- What counts in a history: an accepted request, or a recopy, with whether it is small and the height of its target. A recopy is a sweep of
--- every window of its target, unless it is small.
-pub data Step : Type 0 where
-  Worked : Event → Step
-  Recopied : Bool → ℕ → Step
-
-abbrev pub step_sweeps : ℕ → ℕ → Step → Bool
-step_sweeps l s (Worked e) = sweeps l s e
-step_sweeps l s (Recopied small h) = not small && leb l h
 
 -- A request, and the cells that it is lent. A forecast is lent by value, so each request may be lent another.
 pub record Turn : Type 0 where

@@ -1,6 +1,5 @@
 pub mod Rows
 pub mod Demand1
-pub mod Recopies
 pub mod PlainSet
 pub mod Demand2
 pub mod Demand2Mixed

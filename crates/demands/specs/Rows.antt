@@ -1,4 +1,4 @@
--- Document 01, "Refusal numbers, in order of testing", and document 02's 11 to 15: each row in words about single slots, cards, cells
+-- Document 01, "Refusal numbers, in order of testing", and document 02's 12 to 15: each row in words about single slots, cards, cells
 -- and bytes.
 use Rattle.std.specs.Prelude.{ℕ, ◌+◌, ◌*◌, ◌/◌, ◌^◌, ◌≤◌, ◌<◌, ◌≡◌, ◌⊎◌, ◌≢◌, List, [], ◌∷◌, ◌++◌, length, take, drop, get_or}
 use Rattle.slots.specs.Segments.{live}
@@ -9,8 +9,7 @@ use Rattle.cells.specs.declared.Cell.{Cell}
 use Rattle.cells.specs.Cells.{zero_cell}
 use Rattle.forecast.specs.declared.Forecast.{Forecast}
 use Rattle.forecast.specs.Cells.{cells}
-use Rattle.rules.specs.declared.Profile.{Profile}
-use Rattle.rules.specs.Profiles.{profile_of, most, fewest}
+use Rattle.rules.specs.Profiles.{profile_of, most}
 use Rattle.rules.specs.declared.Record.{Record}
 use Rattle.rules.specs.Runs.{record_of}
 use Rattle.rules.specs.Lent.{Lent}
@@ -105,16 +104,6 @@ row14 L = record { no = 14; when = (h : ℕ) × (length L.slots ≡ 64 * 2 ^ h) 
 abbrev pub row14_size : Lent → Row
 row14_size L = record { no = 14; when = (h : ℕ) × (length L.slots ≡ 64 * 2 ^ h) × (length L.table ≢ table_size h) }
 
--- 11: the keys don't fit the target: fewer than 26 (second profile: 40) go only to height 1; else they are from 13 × 2^h to 32 × 2^h (from
--- 20 × 2^h to 44 × 2^h).
-pub data NoFit (p : Profile) (h m : ℕ) : Type 0 where
-  small : m < 2 * fewest p → h ≢ 1 → NoFit p h m
-  too_few : 2 * fewest p ≤ m → m < fewest p * 2 ^ h → NoFit p h m
-  too_many : most p * 2 ^ h < m → NoFit p h m
-
-abbrev pub row11 : ℕ → List ℕ → List ℕ → Row
-row11 profile slots target = record { no = 11; when = (h : ℕ) × (length target ≡ 64 * 2 ^ h) × NoFit (profile_of profile) h (length (live slots)) }
-
 -- 5: the key of an insert, delete or lookup is 0.
 abbrev pub row5 : ℕ → Row
 row5 y = record { no = 5; when = y ≡ 0 }
@@ -158,12 +147,8 @@ row10 profile bytes allowance W = record {
 abbrev pub list_rows : ℕ → Lent → List Row
 list_rows profile L = row15 profile ∷ row1 L.slots ∷ row12 L ∷ row2 L.slots ∷ row13 L ∷ row3 profile L.slots ∷ []
 
--- of what is to be filled
-abbrev pub filled_rows : Lent → List Row
-filled_rows L = row1 L.slots ∷ row12 L ∷ row14_size L ∷ []
-
 abbrev pub make_rows : ℕ → Lent → List Row
-make_rows profile L = row15 profile ∷ filled_rows L
+make_rows profile L = row15 profile ∷ row1 L.slots ∷ row12 L ∷ row14_size L ∷ []
 
 abbrev pub read_rows : ℕ → Lent → List Row
 read_rows profile L = list_rows profile L ++ (row14 L ∷ [])
@@ -179,10 +164,6 @@ insert_rows profile L F y = both_rows profile L F ++ (row5 y ∷ row6 L.slots y 
 
 abbrev pub delete_rows : ℕ → Lent → Forecast → ℕ → List Row
 delete_rows profile L F y = both_rows profile L F ++ (row5 y ∷ row7 L.slots y ∷ [])
-
--- from L with F into T
-abbrev pub recopy_rows : ℕ → Lent → Forecast → Lent → List Row
-recopy_rows profile L F T = both_rows profile L F ++ (filled_rows T ++ (row11 profile L.slots T.slots ∷ []))
 
 -- The rows by which a run stops, and all of a run's; W is what it did before its place.
 abbrev pub stop_rows : ℕ → List ℕ → ℕ → Worked → List Row

@@ -6,5 +6,4 @@ pub mod Cases
 pub mod FaultCases
 pub mod Became
 pub mod Stepping
-pub mod Shorter
 pub mod Checked

@@ -3,11 +3,10 @@ use Prim.Native.Nat.{ℕ, suc, ◌+◌, ◌-◌, ◌≤◌, ◌<◌}
 use mathlib.Core.Path.{◌≡◌, sym, ap, ◌∙◌}
 use mathlib.Core.List.{List, ◌∷◌, ◌++◌, map}
 use native.Mathlib.Omega.{arith}
-use lib.ListN
-use lib.ListN.{length, take, drop, get_or, set, replicate, length-map, length-set, length-replicate, replicate-append-replicate, drop_of_length-le, get_or-eq_default}
+use lib.ListN.{length, take, drop, get_or, set, replicate, length-map, length-set, length-replicate, replicate-append-replicate, drop_of_length-le, get_or-map, get_or-eq_default}
 use lib.Seq.{length-take-le, take_at, take-append-add, set-append_left, set_split, append_snoc, map-set_same}
 use Rattle.lists.specs.Lists.{padded, without}
-use Rattle.lists.proofs.Maps.{map-take, map-set, get_d_map}
+use Rattle.lists.proofs.Maps.{map-take, map-set}
 use Rattle.lists.proofs.Fill.{length-padded, get_or-padded, set-padded, take-padded, drop-padded, length_without}
 use Rattle.lists.proofs.Overwritten.{written, written_from, written-more, written-ahead, written-done, take-without, get_or-without}
 use Rattle.rows.specs.Ahead.{ahead_row}
@@ -43,10 +42,6 @@ padded-more n v xs h =
 abbrev pub closing : (Cell → ℕ) → List Cell → ℕ → ℕ → List ℕ
 closing f cs at i = written (row f (without at cs)) (row f cs) i
 
--- and by the cells that g makes of them
-abbrev pub changing : (Cell → ℕ) → (Cell → Cell) → List Cell → ℕ → List ℕ
-changing f g cs i = written (row f (map g cs)) (row f cs) i
-
 module _ (f : Cell → ℕ) (cs : List Cell) where
   pub row-long : length cs ≤ 12 → length (row f cs) ≡ 12
   row-long k = length-padded 12 0 (map f cs) (rw (length-map cs f) k)
@@ -73,7 +68,7 @@ module _ (f : Cell → ℕ) (cs : List Cell) where
 
   -- what stands at a place
   pub row_at : f zero_cell ≡ 0 → (i : ℕ) → get_or (row f cs) i 0 ≡ f (get_or cs i zero_cell)
-  row_at z i = get_or-padded 12 0 (map f cs) i ∙ ap (get_or (map f cs) i) (sym z) ∙ ListN.get_d_map f cs i zero_cell
+  row_at z i = get_or-padded 12 0 (map f cs) i ∙ ap (get_or (map f cs) i) (sym z) ∙ get_or-map f cs i zero_cell
 
 module _ (f : Cell → ℕ) (z : f zero_cell ≡ 0) (cs : List Cell) where
   -- two neighbours that change places
@@ -82,25 +77,6 @@ module _ (f : Cell → ℕ) (z : f zero_cell ≡ 0) (cs : List Cell) where
     where
       ahead2 : (ds : List Cell) → length ds ≡ length cs → set (row f ds) (i - 1) (f (get_or cs i zero_cell)) ≡ row f (set ds (i - 1) (get_or cs i zero_cell))
       ahead2 ds e = set-padded 12 0 (map f ds) (i - 1) (f (get_or cs i zero_cell)) (rw (length-map ds f) (omega arith)) ∙ ap (padded 12 0) (sym (map-set f ds (i - 1) (get_or cs i zero_cell)))
-
-  -- EVERY CELL CHANGED: the row overwritten from the front on
-  module _ (g : Cell → Cell) (l : length cs ≤ 12) where
-    new-long : length (row f (map g cs)) ≡ 12
-    new-long = row-long f (map g cs) (rw (length-map cs g) l)
-
-    -- those from i on are as they were
-    pub changing-ahead : (i : ℕ) → i < length cs → get_or (changing f g cs i) i 0 ≡ f (get_or cs i zero_cell)
-    changing-ahead i h = written-ahead (row f (map g cs)) (row f cs) i i 0 (omega arith) (omega (arith, new-long)) ∙ row_at f cs z i
-
-    -- one more
-    pub changing-more : (i x : ℕ) → i < length cs → x ≡ f (g (get_or cs i zero_cell)) → set (changing f g cs i) i x ≡ changing f g cs (i + 1)
-    changing-more i x h e =
-        ap (set (changing f g cs i) i) (e ∙ sym (row_at f (map g cs) z i ∙ ap f (get_d_map g cs i zero_cell zero_cell h)))
-        ∙ written-more (row f (map g cs)) (row f cs) i 0 (omega (arith, new-long)) (omega (arith, row-long f cs l))
-
-    -- all
-    pub changing-all : (i : ℕ) → length cs ≤ i → changing f g cs i ≡ row f (map g cs)
-    changing-all i h = written-done (row f (map g cs)) (row f cs) i (row_drop f (map g cs) i (rw (length-map cs g) h) ∙ sym (row_drop f cs i h))
 
   -- THE CELL AT `at` LOST: the row overwritten from there on
   module _ (at : ℕ) (h : at < length cs) (l : length cs ≤ 12) where

@@ -1,9 +1,9 @@
 // The forecast: what the latest inserts noted, newest first.
-ghost use Rattle.std.specs.Prelude.{◌≡◌, [], ◌+◌, ◌≤◌, ◌<◌, length, take};
+ghost use Rattle.std.specs.Prelude.{◌≡◌, [], ◌+◌, ◌≤◌, ◌<◌, length};
 ghost use Rattle.slots.specs.Segments.{Segments};
 ghost use Rattle.slots.specs.Keys.{Listed, segment_of};
 ghost use Rattle.cells.specs.Cells.{weight};
-ghost use Rattle.cells.specs.Steps.{noted, dropped, retargeted, cut_to};
+ghost use Rattle.cells.specs.Steps.{noted, dropped, retargeted};
 ghost use Rattle.seats.specs.Bounds.{Bounded};
 ghost use Rattle.forecast.specs.Cells.{used_cells};
 ghost use Rattle.forecast.specs.Tidy.{Tidy, Became, Marker, Live, Outside, Elsewhere};
@@ -142,35 +142,6 @@ impl Forecast {
         }
         self
     }
-
-    // Counts cut to `p`, and the cells past `p` dropped from the tail.
-    pub fn clip(mut self, p: usize) -> Forecast
-        requires { Tidy self }
-        ensures { Became (cut_to p (used_cells self)) result }
-    {
-        let used = self.used;
-        let mut i: usize = 0;
-        while i < used {
-            self.counts[i] = rows::least8(self.counts[i], p);
-            i += 1;
-        }
-        shorten(self, p)
-    }
-}
-
-// The cells past `p` are dropped from the tail.
-fn shorten(mut forecast: Forecast, p: usize) -> Forecast
-    requires { Tidy forecast }
-    ensures { Became (take p (used_cells forecast)) result }
-{
-    while p < forecast.used {
-        let tail = forecast.used - 1;
-        forecast.counts[tail] = 0;
-        forecast.segments[tail] = 0;
-        forecast.used = tail;
-        forecast.markers[tail] = 0;
-    }
-    forecast
 }
 
 // The segment of a cell that named `segment`: its marker's, by the bounds, where that was one of the `n` from `first` on; else the same.

@@ -11,12 +11,12 @@ use Rattle.moves.specs.Moves.{moved}
 use Rattle.gaps.specs.Gaps.{cleared, opened, closed}
 
 module _ {A B : Type 0} (f : A → B) where
-  pub map-replicate : (n : ℕ) (z : A) → map f (replicate n z) ≡ replicate n (f z)
+  map-replicate : (n : ℕ) (z : A) → map f (replicate n z) ≡ replicate n (f z)
   map-replicate zero z = refl
   map-replicate (suc n) z = ap {B = List B} (λ r. f z ∷ r) (map-replicate n z)
 
   -- the parts of a list put together again
-  pub joins : (xs ys : List A) {xs' ys' : List B} → map f xs ≡ xs' → map f ys ≡ ys' → map f (xs ++ ys) ≡ xs' ++ ys'
+  joins : (xs ys : List A) {xs' ys' : List B} → map f xs ≡ xs' → map f ys ≡ ys' → map f (xs ++ ys) ≡ xs' ++ ys'
   joins xs ys p q = map-append f xs ys ∙ ap₂ {C = List B} ◌++◌ p q
 
   pub map-paste : (l d : List A) (to n : ℕ) → map f (paste l to d n) ≡ paste (map f l) to (map f d) n
@@ -50,7 +50,7 @@ module _ {A B : Type 0} (f : A → B) where
 
   -- BESIDE: c are the cards of the slots l, and both are changed in the same way
   module _ (l : List A) {l' : List A} {c c' : List B} (h : c ≡ map f l) where
-    pub kept : (op : List A → List A) (op' : List B → List B) → map f (op l) ≡ op' (map f l) → l' ≡ op l → c' ≡ op' c → c' ≡ map f l'
+    kept : (op : List A → List A) (op' : List B → List B) → map f (op l) ≡ op' (map f l) → l' ≡ op l → c' ≡ op' c → c' ≡ map f l'
     kept op op' e p q = q ∙ ap op' h ∙ sym e ∙ ap (map f) (sym p)
 
     pub moved-kept : (from to n : ℕ) → l' ≡ moved from to n l → c' ≡ moved from to n c → c' ≡ map f l'

@@ -2,8 +2,8 @@
 ghost use Rattle.std.specs.Prelude.{◌≡◌, ◌≤◌, ◌<◌, length};
 ghost use Rattle.gaps.specs.Gaps.{cleared, opened, closed};
 
-// As clear, one slot at a time.
-fn few(part: &mut [u64], cards: &mut [u32], a: usize, e: usize)
+// Writes 0 from index `a` up to index `e`, in slots and cards.
+pub fn clear(part: &mut [u64], cards: &mut [u32], a: usize, e: usize)
     requires a_le_e { (a ≤ e) × (e ≤ length part.old) }
     requires cards_len { length cards.old ≡ length part.old }
     ensures slots { part.new ≡ cleared a e 0 part.old }
@@ -15,41 +15,6 @@ fn few(part: &mut [u64], cards: &mut [u32], a: usize, e: usize)
         cards[i] = 0;
         i += 1;
     }
-}
-
-// Writes 0 from index `a` up to index `e`, in slots and cards. Four at a time; the last four may overlap those before, and hold
-// the same there.
-pub fn clear(part: &mut [u64], cards: &mut [u32], a: usize, e: usize)
-    requires a_le_e { (a ≤ e) × (e ≤ length part.old) }
-    requires cards_len { length cards.old ≡ length part.old }
-    ensures slots { part.new ≡ cleared a e 0 part.old }
-    ensures cards { cards.new ≡ cleared a e 0 cards.old }
-{
-    if e - a < 4 {
-        few(part, cards, a, e);
-        return;
-    }
-    let zeros = fours::Four {
-        w: 0,
-        x: 0,
-        y: 0,
-        z: 0,
-    };
-    let no_cards = fours::FourCards {
-        w: 0,
-        x: 0,
-        y: 0,
-        z: 0,
-    };
-    let last = e - 4;
-    let mut i = a;
-    while i < last {
-        fours::put_four(part, i, zeros);
-        fours::put_cards(cards, i, no_cards);
-        i += 4;
-    }
-    fours::put_four(part, last, zeros);
-    fours::put_cards(cards, last, no_cards);
 }
 
 // In a part whose first `n` slots are keys: `v` put in front of key `at`, with its card.

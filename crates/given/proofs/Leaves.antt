@@ -5,7 +5,6 @@ use mathlib.Core.Bool.{Bool, true, false, not, ◌&&◌, ◌||◌}
 use mathlib.Core.Logic.{◌≢◌, inl, inr}
 use mathlib.Core.List.{List, [], ◌∷◌}
 use native.Mathlib.Omega.{arith}
-use borrow.Author.Tests.{ne_eqb}
 use lib.Dec.{T, leb, leb→le}
 use lib.ListN.{length}
 use Rattle.lists.specs.Lists.{padded}
@@ -19,16 +18,15 @@ use Rattle.rules.specs.Runs.{one}
 use Rattle.rules.specs.Checks as checks
 use Rattle.rules.specs.Lent.{Lent, lend}
 use Rattle.rules.specs.Calls as rules
-use Rattle.demands.specs.Rows.{Row, Tells, make_rows, read_rows, lookup_rows, insert_rows, delete_rows, recopy_rows}
+use Rattle.demands.specs.Rows.{Row, Tells, make_rows, read_rows, lookup_rows, insert_rows, delete_rows}
 use Rattle.demands.proofs.Refusals.Numbers as below
 use Rattle.demands.proofs.Refusals.Refused.{request-refused, lookup-refused, scan-refused, make-refused}
-use Rattle.demands.proofs.Recopying.Refusing.{recopy-tells, recopy-refused}
 use Rattle.demands.proofs.Running.Runs.{run-refused}
 use Rattle.demands.proofs.Running.Singly as singly
 use Rattle.words.specs.Words.{cell_words, forecast_in, forecast_words}
 use Rattle.words.specs.Totals.{totals_in, totals_words}
-use Rattle.given.specs.Calls.{Given, sized, not_forecast, not_totals, short, over, left_by, forecast_for, reply_words, make, lookup, insert, delete, scan, recopy, run}
-use Rattle.given.specs.Refused.{Leaves, MakeLeaves, LookupLeaves, ScanLeaves, InsertLeaves, DeleteLeaves, RecopyLeaves, RunLeaves}
+use Rattle.given.specs.Calls.{Given, sized, not_forecast, not_totals, short, over, left_by, reply_words, make, lookup, insert, delete, scan, run}
+use Rattle.given.specs.Refused.{Leaves, MakeLeaves, LookupLeaves, ScanLeaves, InsertLeaves, DeleteLeaves, RunLeaves}
 use Rattle.words.proofs.WordLaws.{words-again}
 use Rattle.given.proofs.Sizes.{forecast-fits, totals-fit}
 use Rattle.given.proofs.Numbers.{roomy, all_rows, below-tells}
@@ -97,16 +95,6 @@ delete-leaves profile list cards table forecast key reply =
     ap (λ (c : rules.Called). left_by c (over (c.answer.moves ∷ one c.answer.sparse ∷ []) reply))
     (request-refused profile (Delete key) 0 (lend list cards table) (forecast_in forecast) n)
     ∙ ap (λ (ws : List ℕ). list ∷ cards ∷ table ∷ ws ∷ over (0 ∷ 0 ∷ []) reply ∷ []) (words-again forecast (forecast-fits forecast (neither (not_forecast forecast) _ t).0))
-
-pub recopy-leaves : RecopyLeaves
-unfolding recopy
-recopy-leaves profile list cards table forecast target target-cards target-table target-forecast reply =
-    leaves (not_forecast forecast || (not_forecast target-forecast || short reply 1)) _ _ _
-    (small (recopy_rows profile (lend list cards table) (forecast_in forecast) (lend target target-cards target-table)) _ tt
-    (recopy-tells profile (lend list cards table) (forecast_in forecast) (lend target target-cards target-table) (roomy forecast))) λ t n _ _.
-    ap (λ (c : rules.Called). c.lent.slots ∷ c.lent.cards ∷ c.lent.table ∷ forecast_for c target-forecast ∷ over (c.answer.moves ∷ []) reply ∷ [])
-    (recopy-refused profile (lend list cards table) (forecast_in forecast) (lend target target-cards target-table) n)
-    ∙ rw (ne_eqb (rules.recopy profile (lend list cards table) (forecast_in forecast) (lend target target-cards target-table)).answer.number 0 n)
 
 -- A RUN whose stop is none of 0, 9 and 10 was refused by its check
 unchecked : (profile : ℕ) (L : Lent) (F : Forecast) (requests : List ℕ) (allowance : ℕ) (S : Totals) → (rules.run profile L F requests allowance S).reply.stop ≢ 0

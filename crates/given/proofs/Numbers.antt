@@ -11,16 +11,15 @@ use Rattle.lists.proofs.Tests.{double-not, neqb→ne}
 use Rattle.rules.specs.Checks as checks
 use Rattle.rules.specs.Lent.{Lent, lend}
 use Rattle.rules.specs.Calls as rules
-use Rattle.demands.specs.Rows.{Row, Tells, make_rows, read_rows, both_rows, lookup_rows, insert_rows, delete_rows, recopy_rows, stop_rows, run_rows}
+use Rattle.demands.specs.Rows.{Row, Tells, make_rows, read_rows, both_rows, lookup_rows, insert_rows, delete_rows, stop_rows, run_rows}
 use Rattle.demands.proofs.Refusals.RowsInOrder.{Decides, tells-if, tells-after}
 use Rattle.demands.proofs.Refusals.Numbers as below
-use Rattle.demands.proofs.Recopying.Refusing.{recopy-tells as recopied}
 use Rattle.demands.proofs.Running.Runs.{run-refused}
 use Rattle.demands.proofs.Running.Singly as singly
 use Rattle.words.specs.Words.{forecast_in}
 use Rattle.words.specs.Totals.{totals_in}
-use Rattle.given.specs.Calls.{Given, sized, not_forecast, not_totals, short, make, check, lookup, insert, delete, scan, recopy, run}
-use Rattle.given.specs.Refused.{row100, NotForecast, MakeTells, CheckTells, LookupTells, ScanTells, InsertTells, DeleteTells, RecopyTells, RunTells}
+use Rattle.given.specs.Calls.{Given, sized, not_forecast, not_totals, short, make, check, lookup, insert, delete, scan, run}
+use Rattle.given.specs.Refused.{row100, NotForecast, MakeTells, CheckTells, LookupTells, ScanTells, InsertTells, DeleteTells, RunTells}
 use Rattle.forecast.specs.Tidy.{Roomy}
 use Rattle.words.proofs.WordLaws.{forecast_in-roomy}
 
@@ -82,14 +81,6 @@ unfolding delete
 delete-tells profile list cards table forecast key reply =
     sized-tells (not_forecast forecast || short reply 2) (NotForecast forecast ⊎ (length reply < 2)) (delete_rows profile (lend list cards table) (forecast_in forecast) key) _ _
     (both forecast reply 2) (below.delete-tells profile (lend list cards table) (forecast_in forecast) key (roomy forecast))
-
-pub recopy-tells : RecopyTells
-unfolding recopy
-recopy-tells profile list cards table forecast target target-cards target-table target-forecast reply =
-    sized-tells (not_forecast forecast || (not_forecast target-forecast || short reply 1)) (NotForecast forecast ⊎ (NotForecast target-forecast ⊎ (length reply < 1)))
-    (recopy_rows profile (lend list cards table) (forecast_in forecast) (lend target target-cards target-table)) _ _
-    (either-size (not_forecast forecast) (not_forecast target-forecast || short reply 1) _ _ (unequal (length forecast) 37) (both target-forecast reply 1))
-    (recopied profile (lend list cards table) (forecast_in forecast) (lend target target-cards target-table) (roomy forecast))
 
 -- A RUN
 module _ (profile : ℕ) (L : Lent) (forecast requests : List ℕ) (allowance : ℕ) (totals reply : List ℕ) where

@@ -3,7 +3,7 @@ use Prim.Native.Nat.{ℕ}
 use mathlib.Core.Path.{◌≡◌, sym, ap, ◌∙◌}
 use mathlib.Core.List.{List, [], ◌∷◌}
 use lib.ListN.{get_or}
-use Rattle.given.specs.Calls.{Given, Gives, make, check, lookup, insert, delete, scan, recopy, run}
+use Rattle.given.specs.Calls.{Given, Gives, make, check, lookup, insert, delete, scan, run}
 
 module _ (o : Given) (r r' : ℕ) where
   number-one : (l l' : List (List ℕ)) → Gives o r l → Gives o r' l' → r ≡ r'
@@ -59,13 +59,6 @@ pub delete-one : (profile : ℕ) (list cards table forecast : List ℕ) (key : �
     → Gives (delete profile list cards table forecast key reply) r' (a' ∷ b' ∷ c' ∷ d' ∷ e' ∷ [])
     → (r ≡ r') × (a ≡ a') × (b ≡ b') × (c ≡ c') × (d ≡ d') × (e ≡ e')
 delete-one profile list cards table forecast key reply = five (delete profile list cards table forecast key reply)
-
--- recopy: the target, its cards, its table, its forecast and the reply left
-pub recopy-one : (profile : ℕ) (list cards table forecast target target-cards target-table target-forecast reply : List ℕ) (r r' : ℕ) (a b c d e a' b' c' d' e' : List ℕ)
-    → Gives (recopy profile list cards table forecast target target-cards target-table target-forecast reply) r (a ∷ b ∷ c ∷ d ∷ e ∷ [])
-    → Gives (recopy profile list cards table forecast target target-cards target-table target-forecast reply) r' (a' ∷ b' ∷ c' ∷ d' ∷ e' ∷ [])
-    → (r ≡ r') × (a ≡ a') × (b ≡ b') × (c ≡ c') × (d ≡ d') × (e ≡ e')
-recopy-one profile list cards table forecast target target-cards target-table target-forecast reply = five (recopy profile list cards table forecast target target-cards target-table target-forecast reply)
 
 -- run: the list, the cards, the table, the forecast, the totals and the reply left
 pub run-one : (profile : ℕ) (list cards table forecast requests : List ℕ) (allowance : ℕ) (totals reply : List ℕ) (r r' : ℕ) (a b c d e f a' b' c' d' e' f' : List ℕ)

@@ -15,8 +15,7 @@ pub record Given : Type 0 where
   pub number : ℕ
   pub left : List (List ℕ)
 
--- A forecast (a target's too) that is not 37 words, totals that are not 4, or a reply shorter than listed: 100, tested before all else, and
--- nothing touched.
+-- A forecast that is not 37 words, totals that are not 4, or a reply shorter than listed: 100, tested before all else, and nothing touched.
 abbrev pub sized : Bool → List (List ℕ) → Given → Given
 sized wrong lent o = if wrong then record { number = 100; left = lent } else o
 
@@ -73,19 +72,6 @@ scan profile list cards table from output output-cards reply =
     let s : Scanned = rules.scan profile (lend list cards table) from output output-cards in
     sized (short reply 2) (output ∷ output-cards ∷ reply ∷ [])
     (record { number = s.number; left = s.output ∷ s.cards ∷ over (s.written ∷ one s.more ∷ []) reply ∷ [] })
-
--- reply: moves. List, cards, table and forecast are only read. The target's forecast is written where the recopy is accepted, else it stays.
-abbrev pub forecast_for : rules.Called → List ℕ → List ℕ
-forecast_for c stays = let new = forecast_words c.forecast in if eqb c.answer.number 0 then new else stays
-
-unfoldable pub recopy : ℕ → List ℕ → List ℕ → List ℕ → List ℕ → List ℕ → List ℕ → List ℕ → List ℕ → List ℕ → Given
-recopy profile list cards table forecast target target-cards target-table target-forecast reply =
-    let c : rules.Called = rules.recopy profile (lend list cards table) (forecast_in forecast) (lend target target-cards target-table) in
-    sized (not_forecast forecast || (not_forecast target-forecast || short reply 1)) (target ∷ target-cards ∷ target-table ∷ target-forecast ∷ reply ∷ [])
-    (record {
-      number = c.answer.number;
-      left = c.lent.slots ∷ c.lent.cards ∷ c.lent.table ∷ forecast_for c target-forecast ∷ over (c.answer.moves ∷ []) reply ∷ [];
-    })
 
 -- reply: worked, refused, moves, place; the number is the stop number
 abbrev pub reply_words : Tally → List ℕ

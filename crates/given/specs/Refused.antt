@@ -2,10 +2,10 @@
 use Rattle.std.specs.Prelude.{ℕ, ◌<◌, ◌≡◌, ◌⊎◌, ◌≢◌, List, [], ◌∷◌, length, replicate}
 use Rattle.rules.specs.Lent.{lend}
 use Rattle.rules.specs.Calls as rules
-use Rattle.demands.specs.Rows.{Row, Tells, make_rows, read_rows, both_rows, lookup_rows, insert_rows, delete_rows, recopy_rows, run_rows}
+use Rattle.demands.specs.Rows.{Row, Tells, make_rows, read_rows, both_rows, lookup_rows, insert_rows, delete_rows, run_rows}
 use Rattle.words.specs.Words.{forecast_in}
 use Rattle.words.specs.Totals.{totals_in}
-use Rattle.given.specs.Calls.{Given, over, make, check, lookup, insert, delete, scan, recopy, run}
+use Rattle.given.specs.Calls.{Given, over, make, check, lookup, insert, delete, scan, run}
 
 -- EACH NUMBER IS GIVEN EXACTLY WHEN ITS ROW APPLIES AND NONE BEFORE IT DOES; 100 is the first.
 abbrev pub row100 : Type 0 → Row
@@ -37,13 +37,6 @@ InsertTells = (profile : ℕ) (list cards table forecast : List ℕ) (key card :
 abbrev pub DeleteTells : Type 0
 DeleteTells = (profile : ℕ) (list cards table forecast : List ℕ) (key : ℕ) (reply : List ℕ)
     → Tells (row100 (NotForecast forecast ⊎ (length reply < 2)) ∷ delete_rows profile (lend list cards table) (forecast_in forecast) key) (delete profile list cards table forecast key reply).number
-
-abbrev pub RecopyTells : Type 0
-RecopyTells = (profile : ℕ) (list cards table forecast target target-cards target-table target-forecast reply : List ℕ)
-    → Tells
-    (row100 (NotForecast forecast ⊎ (NotForecast target-forecast ⊎ (length reply < 1)))
-    ∷ recopy_rows profile (lend list cards table) (forecast_in forecast) (lend target target-cards target-table))
-    (recopy profile list cards table forecast target target-cards target-table target-forecast reply).number
 
 -- 9 and 10 speak of the place where the run stopped.
 abbrev pub RunTells : Type 0
@@ -77,11 +70,6 @@ InsertLeaves = (profile : ℕ) (list cards table forecast : List ℕ) (key card 
 abbrev pub DeleteLeaves : Type 0
 DeleteLeaves = (profile : ℕ) (list cards table forecast : List ℕ) (key : ℕ) (reply : List ℕ)
     → Leaves (delete profile list cards table forecast key reply) (list ∷ cards ∷ table ∷ forecast ∷ reply ∷ []) (list ∷ cards ∷ table ∷ forecast ∷ over (0 ∷ 0 ∷ []) reply ∷ [])
-
-abbrev pub RecopyLeaves : Type 0
-RecopyLeaves = (profile : ℕ) (list cards table forecast target target-cards target-table target-forecast reply : List ℕ)
-    → Leaves (recopy profile list cards table forecast target target-cards target-table target-forecast reply)
-    (target ∷ target-cards ∷ target-table ∷ target-forecast ∷ reply ∷ []) (target ∷ target-cards ∷ target-table ∷ target-forecast ∷ over (0 ∷ []) reply ∷ [])
 
 abbrev pub RunLeaves : Type 0
 RunLeaves = (profile : ℕ) (list cards table forecast requests : List ℕ) (allowance : ℕ) (totals reply : List ℕ)

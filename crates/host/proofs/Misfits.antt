@@ -5,7 +5,7 @@ use mathlib.Core.Bool.{Bool, true, ◌||◌}
 use mathlib.Core.List.{List, [], ◌∷◌}
 use borrow.Author.Tests.{lt-ltb}
 use lib.ListN.{length}
-use Rattle.given.specs.Calls.{Given, sized, make, check, lookup, insert, delete, scan, recopy, run, not_forecast, not_totals, short, Gives}
+use Rattle.given.specs.Calls.{Given, sized, make, check, lookup, insert, delete, scan, run, not_forecast, not_totals, short, Gives}
 use Rattle.given.proofs.Sizes.{misfit}
 
 module _ (profile : ℕ) (list cards table forecast : List ℕ) (r : Bool) (e : r ≡ not_forecast forecast) (t : r ≡ true) where
@@ -34,12 +34,6 @@ module _ (profile : ℕ) (list cards table forecast : List ℕ) (key : ℕ) (rep
   pub delete-misfit : r ≡ (not_forecast forecast || short reply 2) → r ≡ true → Gives (delete profile list cards table forecast key reply) 100 (list ∷ cards ∷ table ∷ forecast ∷ reply ∷ [])
   unfolding delete
   delete-misfit e t = misfit _ _ _ (sym e ∙ t)
-
-pub recopy-misfit : (profile : ℕ) (list cards table forecast target target-cards target-table target-forecast reply : List ℕ) (r : Bool)
-    → r ≡ (not_forecast forecast || (not_forecast target-forecast || short reply 1)) → r ≡ true
-    → Gives (recopy profile list cards table forecast target target-cards target-table target-forecast reply) 100 (target ∷ target-cards ∷ target-table ∷ target-forecast ∷ reply ∷ [])
-unfolding recopy
-recopy-misfit profile list cards table forecast target target-cards target-table target-forecast reply r e t = misfit _ _ _ (sym e ∙ t)
 
 pub run-misfit : (profile : ℕ) (list cards table forecast requests : List ℕ) (allowance : ℕ) (totals reply : List ℕ) (r : Bool)
     → r ≡ (not_forecast forecast || (not_totals totals || short reply 4)) → r ≡ true

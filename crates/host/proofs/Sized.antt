@@ -22,18 +22,9 @@ both-fit forecast reply n r e f =
     let t = neither (not_forecast forecast) (short reply n) (fails r _ e f) in
     (forecast-fits forecast t.0, reply-fits reply n t.1)
 
--- between them a third size, of which A says that it fits
-three-fit : {A : Type 0} (b : Bool) → (T (not b) → A) → (forecast reply : List ℕ) (n : ℕ) (r : Bool) → r ≡ (not_forecast forecast || (b || short reply n)) → r ≡ false
-    → (length forecast ≡ 37) × A × (n ≤ length reply)
-three-fit b a forecast reply n r e f =
-    let t = neither (not_forecast forecast) (b || short reply n) (fails r _ e f) in
-    let u = neither b (short reply n) t.1 in
-    (forecast-fits forecast t.0, a u.0, reply-fits reply n u.1)
-
-pub recopy-fit : (forecast target-forecast reply : List ℕ) (r : Bool) → r ≡ (not_forecast forecast || (not_forecast target-forecast || short reply 1)) → r ≡ false
-    → (length forecast ≡ 37) × (length target-forecast ≡ 37) × (1 ≤ length reply)
-recopy-fit forecast target-forecast reply = three-fit (not_forecast target-forecast) (forecast-fits target-forecast) forecast reply 1
-
 pub all_fit : (forecast totals reply : List ℕ) (r : Bool) → r ≡ (not_forecast forecast || (not_totals totals || short reply 4)) → r ≡ false
     → (length forecast ≡ 37) × (length totals ≡ 4) × (4 ≤ length reply)
-all_fit forecast totals reply = three-fit (not_totals totals) (totals-fit totals) forecast reply 4
+all_fit forecast totals reply r e f =
+    let t = neither (not_forecast forecast) (not_totals totals || short reply 4) (fails r _ e f) in
+    let u = neither (not_totals totals) (short reply 4) t.1 in
+    (forecast-fits forecast t.0, totals-fit totals u.0, reply-fits reply 4 u.1)

@@ -1,5 +1,4 @@
 // The calls for C programs, on numbers and slices of numbers. They ask nothing of what they are lent.
 pub mod calls;
 pub mod changing;
-pub mod recopying;
 pub mod running;

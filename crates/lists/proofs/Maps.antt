@@ -1,15 +1,13 @@
 -- Parts, changes, splices and searches of a mapped list.
 use mathlib.Core.Path.{◌≡◌, refl, ap, ap₂, ◌∙◌}
 use mathlib.Core.Bool.{Bool}
-use mathlib.Core.List.Memᴰ.{head as here}
-use mathlib.Core.List.Memᴰ.{tail as there}
 use mathlib.Core.List.{List, [], ◌∷◌, ◌++◌, map, map-append}
 use Prim.Native.Nat.{ℕ, zero, suc, ◌+◌, ◌≤◌, ◌<◌}
 use native.Mathlib.Omega.{arith}
 use lib.ListN.{length, take, drop, get_or, set, length-append, length-drop}
 use lib.Seq.{length-take-le}
 use Rattle.lists.specs.Choice.{if◌then◌else◌}
-use Rattle.lists.specs.Lists.{All, splice}
+use Rattle.lists.specs.Lists.{splice}
 use Rattle.lists.specs.Search.{place_by}
 
 module _ {ℓ κ} {A : Type ℓ} {B : Type κ} where
@@ -40,11 +38,6 @@ module _ {ℓ κ} {A : Type ℓ} {B : Type κ} where
   get_d_map f (x ∷ xs) (suc i) d e h = get_d_map f xs i d e (omega arith)
 
 -- the place of the first that passes
--- elements that a change leaves as they are
-pub map-own {ℓ} : {A : Type ℓ} (f : A → A) (xs : List A) → All (λ x. f x ≡ x) xs → map f xs ≡ xs
-map-own f [] h = refl
-map-own {A = A} f (x ∷ xs) h = ap₂ {C = List A} ◌∷◌ (h x (here refl)) (map-own f xs (λ y m. h y (there m)))
-
 pub place_map : {A B : Type 0} (p : B → Bool) (f : A → B) (xs : List A) → place_by p (map f xs) ≡ place_by (λ x. p (f x)) xs
 place_map p f [] = refl
 place_map p f (x ∷ xs) = ap (λ (n : ℕ). if p (f x) then 0 else suc n) (place_map p f xs)

@@ -6,7 +6,7 @@ ghost use Rattle.answers.specs.Admits.{MakeAdmits};
 
 use answers::{MakeAnswer, MakeReply};
 use forecast::Forecast;
-use rules::{Refusal, Verdict};
+use rules::Refusal;
 
 // What a make answers, with an empty forecast.
 fn told(answer: MakeAnswer) -> MakeReply
@@ -24,9 +24,14 @@ pub fn make(profile: u64, list: &mut [u64], cards: &mut [u32], table: &mut [usiz
         return told(MakeAnswer::Refused(Refusal::UnknownProfile));
     }
     let n = list.len();
-    let verdict = lengths::look(n, cards.len(), table.len());
-    if let Verdict::Refused(refusal) = verdict {
-        return told(MakeAnswer::Refused(refusal));
+    if places::heights::height_of(n) == 0 {
+        return told(MakeAnswer::Refused(Refusal::WrongLength));
+    }
+    if cards.len() != n {
+        return told(MakeAnswer::Refused(Refusal::WrongCards));
+    }
+    if table.len() != n / 32 - 1 {
+        return told(MakeAnswer::Refused(Refusal::WrongTable));
     }
     gaps::clear(list, cards, 0, n);
     tables::keeping::clear(table);

@@ -1,5 +1,4 @@
 pub mod Spots
 pub mod CellMarks
-pub mod Changes
 pub mod Standing
 pub mod Handed

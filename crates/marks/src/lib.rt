@@ -1,4 +1,4 @@
-// The marks of a window, found in the list as it stands before a change: the places that the keys that weigh will have, and their weights.
+// The marks of a window, found in the list as it stands before a request: the places that the keys that weigh will have, and their weights.
 ghost use Rattle.std.specs.Prelude.{◌≡◌, ℕ, ◌+◌, ◌*◌, ◌<◌, ◌≤◌, [], map, length, take, slice_index, slice_index_or};
 ghost use mathlib.Core.List.{Memᴰ as Mem};
 ghost use Rattle.lists.specs.Lists.{insert_at};
@@ -16,20 +16,13 @@ use places::counting::keys_in;
 use places::finding::position;
 use stretches::passing::mark_from;
 
-// What is done to a window's keys: nothing, a key put in, or a key taken out.
-#[derive(Drop)]
-pub enum Change {
-    Same,
-    PutIn(u64),
-    TakenOut(u64),
-}
-
-// A window of segments, and what is done to its keys: the first of them and how many, and the change.
+// A window of segments, and the request in it: the first of them and how many, the key, and whether it is put in or taken out.
 #[derive(Drop)]
 pub struct Window {
     pub first: usize,
     pub n: usize,
-    pub change: Change,
+    pub key: u64,
+    pub grows: bool,
 }
 
 // `v` put in front of the number at `k`, of the first `n`.
@@ -47,7 +40,7 @@ pub fn put_in(xs: &mut [usize], n: usize, k: usize, v: usize)
     }
 }
 
-// Where `marker`, a key of segment `s` of the window, stands among the window's keys once the change is done.
+// Where `marker`, a key of segment `s` of the window, stands among the window's keys once the request is done.
 fn place_of(list: &[u64], counts: &[usize], w: Window, s: usize, marker: u64) -> usize
     requires first_le_s { (w.first ≤ s) × (s < w.first + w.n) × (w.n ≤ 64) }
     requires n_in_bounds { (64 * (w.first + w.n) ≤ length list.now) × (w.first + w.n ≤ length counts.now) × ((k : ℕ) → k < w.first + w.n → slice_index counts.now k ≤ 64) }
@@ -58,23 +51,14 @@ fn place_of(list: &[u64], counts: &[usize], w: Window, s: usize, marker: u64) ->
     let held = counts[s];
     let first = w.first;
     let p = keys_in(counts, first, s) + position(&list[a..e], held, marker);
-    let change = w.change;
-    match change {
-        Change::Same => p,
-        Change::PutIn(key) => {
-            if marker <= key {
-                return p;
-            }
-            p + 1
-        }
-        Change::TakenOut(key) => {
-            if marker <= key {
-                return p;
-            }
-            // The key that is taken out is one of those below: there is one to take off.
-            std::num::wrapping_sub_usize(p, 1)
-        }
+    if marker <= w.key {
+        return p;
     }
+    if w.grows {
+        return p + 1;
+    }
+    // The key that is taken out is one of those below: there is one to take off.
+    std::num::wrapping_sub_usize(p, 1)
 }
 
 // One cell's mark, if its marker is a key of the window; the answer is how many marks there are then.
@@ -110,7 +94,7 @@ fn mark_cell(
     n + 1
 }
 
-// The marks of the window's keys, as they will be with the change done, into `at` and `weights`; the answer is how many.
+// The marks of the window's keys, as they will be with the request done, into `at` and `weights`; the answer is how many.
 pub fn mark(
     list: &[u64],
     counts: &[usize],

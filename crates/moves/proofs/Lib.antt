@@ -1,4 +1,3 @@
 pub mod Moving
 pub mod Fronts
 pub mod Fours
-pub mod Gathering

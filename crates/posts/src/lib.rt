@@ -1,23 +1,12 @@
-// What insert, delete, a recopy and a run have come to, written into the words that a C program lends.
+// What insert, delete and a run have come to, written into the words that a C program lends.
 ghost use Rattle.std.specs.Prelude.{◌≡◌, ◌≤◌, length};
-ghost use Rattle.answers.specs.Answers.{insert_paper, delete_paper, recopy_paper};
+ghost use Rattle.answers.specs.Answers.{insert_paper, delete_paper};
 ghost use Rattle.telling.specs.Told.{answer_words};
 ghost use Rattle.posts.specs.Posts.{one_word, two_words, Posted, RunPosted};
 
-use answers::{DeleteReply, InsertReply, RecopyReply};
+use answers::{DeleteReply, InsertReply};
 use forecast::Forecast;
-use given::Told;
 use rules::{Tally, Totals};
-
-// What a call tells in one word of the reply, and the forecast's words; gives its number.
-fn post_one(told: Told, after: Forecast, forecast: &mut [u64], reply: &mut [u64]) -> u64
-    requires { (length forecast.old ≡ 37) × (1 ≤ length reply.old) }
-    ensures { Posted one_word told after forecast.old reply.old result forecast.new reply.new }
-{
-    let number = replies::writing::tell_one(told, reply);
-    replies::writing::hand_back(number, after, forecast);
-    number
-}
 
 // An insert: its word of the reply, and the forecast's words; gives its number.
 pub fn post_insert(done: InsertReply, forecast: &mut [u64], reply: &mut [u64]) -> u64
@@ -26,8 +15,10 @@ pub fn post_insert(done: InsertReply, forecast: &mut [u64], reply: &mut [u64]) -
 {
     let answer = done.answer;
     let told = telling::insert_told(answer);
+    let number = replies::writing::tell_one(told, reply);
     let after = done.forecast;
-    post_one(told, after, forecast, reply)
+    replies::writing::hand_back(number, after, forecast);
+    number
 }
 
 // A delete: its two words of the reply, and the forecast's words; gives its number.
@@ -41,17 +32,6 @@ pub fn post_delete(done: DeleteReply, forecast: &mut [u64], reply: &mut [u64]) -
     let after = done.forecast;
     replies::writing::hand_back(number, after, forecast);
     number
-}
-
-// A recopy: its word of the reply, and the words of the target's forecast; gives its number.
-pub fn post_recopy(done: RecopyReply, forecast: &mut [u64], reply: &mut [u64]) -> u64
-    requires { (length forecast.old ≡ 37) × (1 ≤ length reply.old) }
-    ensures { Posted one_word (answer_words (recopy_paper done.answer)) done.forecast forecast.old reply.old result forecast.new reply.new }
-{
-    let answer = done.answer;
-    let told = telling::recopy_told(answer);
-    let after = done.forecast;
-    post_one(told, after, forecast, reply)
 }
 
 // A run that `stop` ended: its four words of the reply, and the words of forecast and totals.

@@ -24,17 +24,7 @@ pub fn misfits(forecast: usize, reply: usize, n: usize) -> bool
     reply < n
 }
 
-// A forecast or a target's of any other size than its own, or a reply of under a word.
-pub fn recopy_misfits(forecast: usize, target: usize, reply: usize) -> bool
-    ensures { result ≡ (not (eqb forecast 37) || (not (eqb target 37) || ltb reply 1)) }
-{
-    if no_forecast(forecast) {
-        return true;
-    }
-    misfits(target, reply, 1)
-}
-
-// A forecast or totals of any other size than theirs, or a reply of under four words.
+// That, or totals of any other size than theirs.
 pub fn run_misfits(forecast: usize, totals: usize, reply: usize) -> bool
     ensures { result ≡ (not (eqb forecast 37) || (not (eqb totals 4) || ltb reply 4)) }
 {

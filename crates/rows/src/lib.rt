@@ -1,5 +1,5 @@
-// One row of a forecast's 12: searched, two places exchanged, one put first, an entry cut. The same of 64 bits and of bytes.
-ghost use Rattle.std.specs.Prelude.{◌≡◌, ◌∷◌, min, ◌≤◌, ◌<◌, eqb, length, take};
+// One row of a forecast's 12: searched, two places exchanged, one put first. The same of 64 bits and of bytes.
+ghost use Rattle.std.specs.Prelude.{◌≡◌, ◌∷◌, ◌≤◌, ◌<◌, eqb, length, take};
 ghost use Rattle.lists.specs.Search.{place_by};
 ghost use Rattle.rows.specs.Ahead.{ahead_row};
 
@@ -8,16 +8,6 @@ pub fn wide(x: u8) -> usize
     ensures { result ≡ x }
 {
     x as usize
-}
-
-// The lesser of a byte and a number.
-pub fn least8(x: u8, n: usize) -> u8
-    ensures { result ≡ min x n }
-{
-    if wide(x) <= n {
-        return x;
-    }
-    n as u8
 }
 
 // Place `at` changes places with the one before.

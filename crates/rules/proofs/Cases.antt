@@ -5,4 +5,3 @@ pub mod SecondCases
 pub mod RefusalCases
 pub mod TableCases
 pub mod CardCases
-pub mod RecopyCases

@@ -3,21 +3,20 @@
 -- (check stands in Checks.)
 use Rattle.std.specs.Prelude.{ℕ, false, not, List, [], eqb, length, replicate}
 use Rattle.lists.specs.Choice.{if◌then◌else◌}
-use Rattle.slots.specs.Segments.{live, height_of, segments_of, render}
+use Rattle.slots.specs.Segments.{height_of, segments_of, render}
+use Rattle.levels.specs.Tables.{table_size}
 use Rattle.forecast.specs.declared.Forecast.{Forecast}
 use Rattle.forecast.specs.Cells.{used_cells, forecast_of}
 use Rattle.rules.specs.declared.Request.{Request}
 use Rattle.rules.specs.declared.Request.TheVariants.{Insert, Delete}
 use Rattle.rules.specs.declared.Tally.{Tally}
 use Rattle.rules.specs.declared.Totals.{Totals}
-use Rattle.rules.specs.declared.Profile.{Profile}
-use Rattle.rules.specs.Profiles.{is_profile, profile_of}
+use Rattle.rules.specs.Profiles.{is_profile}
 use Rattle.rules.specs.Placing.{Room, Answer, Outcome, refused, outcome}
 use Rattle.rules.specs.Looking.{Found, not_found, looked_up, Scanned, scanned}
 use Rattle.rules.specs.Cards.{carded}
 use Rattle.rules.specs.Lent.{Lent, lend, cards_of, laid}
-use Rattle.rules.specs.Checks.{shares_of, check_read, check, check_filled}
-use Rattle.rules.specs.Recopying.{fits, recopied}
+use Rattle.rules.specs.Checks.{shares_of, check_read, check}
 use Rattle.rules.specs.Runs.{nothing, Ran, ran, added}
 
 -- What slots and forecast show, and the slots and the forecast that show it.
@@ -37,7 +36,9 @@ not_made L n = record { lent = L; forecast = forecast_of []; number = n }
 unfoldable pub make : ℕ → Lent → Made
 make profile L =
     if not (is_profile profile) then not_made L 15
-    else if not (eqb (check_filled L) 0) then not_made L (check_filled L)
+    else if eqb (height_of (length L.slots)) 0 then not_made L 1
+    else if not (eqb (length L.cards) (length L.slots)) then not_made L 12
+    else if not (eqb (length L.table) (table_size (height_of (length L.slots)))) then not_made L 14
     else record {
       lent = lend (replicate (length L.slots) 0) (replicate (length L.cards) 0) (replicate (length L.table) 0);
       forecast = forecast_of [];
@@ -82,23 +83,6 @@ insert profile L F y v = request profile (Insert y) v L F
 
 abbrev pub delete : ℕ → Lent → Forecast → ℕ → Called
 delete profile L F y = request profile (Delete y) 0 L F
-
--- A recopy from L, with its forecast, into the target T: what it leaves is the target, L stays as it is. Refused, the target stays and the
--- forecast comes back as it was lent. Once L has passed its check, T is tested for 1, 12 and 14 (length), and then m keys for 11.
-abbrev pub target_number : Profile → Lent → ℕ → ℕ
-target_number p T m =
-    if not (eqb (check_filled T) 0) then check_filled T
-    else if not (fits p (height_of (length T.slots)) m) then 11
-    else 0
-
-unfoldable pub recopy : ℕ → Lent → Forecast → Lent → Called
-recopy profile L F T =
-    let n : ℕ = check profile L F in
-    let k : ℕ = target_number (profile_of profile) T (length (live L.slots)) in
-    let o : Outcome = recopied (profile_of profile) (height_of (length T.slots)) (room_of L.slots F) in
-    if not (eqb n 0) then unchanged T F n
-    else if not (eqb k 0) then unchanged T F k
-    else changed (cards_of L) o
 
 -- A run tells what it has counted, its byte place among it (where the record that stopped it begins, or the length of the request bytes at the
 -- end), and the stop number, 0 at the end.

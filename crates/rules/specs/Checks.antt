@@ -1,10 +1,10 @@
 -- Document 01, "Refusal numbers", 1 to 4, and document 02's: 15, which comes first, 12 after 1, 13 after 2, and 14, which comes last: what a
--- check tests, in order; and what is tested of arrays that are to be filled.
+-- check tests, in order.
 use Rattle.std.specs.Prelude.{ℕ, not, List, ltb, eqb, length}
 use Rattle.lists.specs.Choice.{if◌then◌else◌}
 use Rattle.slots.specs.Segments.{live, height_of, segments_of}
 use Rattle.slots.specs.Orders.{order_of, is_kept}
-use Rattle.levels.specs.Tables.{table_size, same}
+use Rattle.levels.specs.Tables.{same}
 use Rattle.forecast.specs.declared.Forecast.{Forecast}
 use Rattle.forecast.specs.Faults.{fault_of, is_sound}
 use Rattle.rules.specs.Profiles.{is_profile, profile_of}
@@ -46,14 +46,6 @@ check_read profile L = then_table (check_cards profile L) L
 -- changes nothing.
 unfoldable pub check : ℕ → Lent → Forecast → ℕ
 check profile L F = then_table (then_forecast (check_cards profile L) profile L.slots F) L
-
--- What is to be filled, as in making empty or a target, is tested for its lengths only: 1, 12 and 14.
-unfoldable pub check_filled : Lent → ℕ
-check_filled L =
-    if eqb (height_of (length L.slots)) 0 then 1
-    else if not (eqb (length L.cards) (length L.slots)) then 12
-    else if not (eqb (length L.table) (table_size (height_of (length L.slots)))) then 14
-    else 0
 
 -- WITHOUT CARDS AND TABLE: 15 and 1 to 3 on slots alone, and with 4 on slots and forecast. The rules work on slots that pass these.
 unfoldable pub check_list : ℕ → List ℕ → ℕ

@@ -8,7 +8,6 @@ pub mod Looking
 pub mod Runs
 pub mod Lent
 pub mod Checks
-pub mod Recopying
 pub mod Calls
 pub mod Readings
 pub mod Sums

@@ -8,7 +8,7 @@ pub enum Profile {
 }
 
 // Why a call, a request or a record is refused: a variant for each number of the documents, in order of testing: 15, 1, 12, 2, 13,
-// 3, 4, 14, 11, 5 to 10.
+// 3, 4, 14, 5 to 10.
 #[derive(Drop)]
 pub enum Refusal {
     UnknownProfile,
@@ -19,7 +19,6 @@ pub enum Refusal {
     TooManyKeys,
     WrongForecast,
     WrongTable,
-    NoFit,
     KeyZero,
     KeyPresent,
     KeyAbsent,

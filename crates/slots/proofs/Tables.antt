@@ -3,12 +3,10 @@ use mathlib.Core.Path.{◌≡◌, sym, ap, ◌∙◌}
 use mathlib.Core.Logic.{◌⊎◌, inl, inr}
 use mathlib.Core.List.{List, [], ◌++◌, map}
 use Prim.Native.Nat.{ℕ, ◌+◌, ◌-◌, ◌≤◌, ◌<◌}
-use native.Mathlib.Decide.{dec_lt}
 use native.Mathlib.Omega.{arith}
-use lib.ListN.{length, take, drop, get_or, length-map, get_or-map, get_or-append, get_or-eq_default}
+use lib.ListN.{length, take, drop, get_or, length-map, get_or-map, get_or-append}
 use lib.Seq.{get_or-append-add, get_or-take, get_or-drop, length-take-le}
-use Rattle.lists.specs.Lists.{All, splice}
-use Rattle.lists.proofs.Members.{at_mem}
+use Rattle.lists.specs.Lists.{splice}
 use Rattle.slots.specs.Segments.{Segments}
 use Rattle.slots.specs.Shown.{CountsOf}
 
@@ -16,14 +14,6 @@ use Rattle.slots.specs.Shown.{CountsOf}
 pub counts-front : (ss : Segments) (counts rest : List ℕ) → counts ≡ map length ss ++ rest → CountsOf ss counts
 counts-front ss counts rest e k h =
     ap (λ (l : List ℕ). get_or l k 0) e ∙ get_or-append (map length ss) rest 0 k (omega (arith, length-map ss length)) ∙ get_or-map length ss k []
-
--- counts of segments of at most 64 keys are at most 64
-pub counts-fit : (ss : Segments) → All (λ s. length s ≤ 64) ss → (j : ℕ) → get_or (map length ss) j 0 ≤ 64
-counts-fit ss h j =
-    elim (dec_lt j (length ss)) [
-      | yes i ↦ omega (arith, get_or-map length ss j [], h (get_or ss j []) (at_mem ss j [] i))
-      | no o ↦ omega (arith, get_or-map length ss j [], ap length (get_or-eq_default ss [] {n = j} (omega arith)))
-    ]
 
 -- an element of a list with a stretch exchanged
 module _ {A : Type 0} (i n : ℕ) (new xs : List A) (d : A) (e : length new ≡ n) (h : i + n ≤ length xs) where

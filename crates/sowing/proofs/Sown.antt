@@ -1,13 +1,15 @@
 -- A window packed, and its keys with one put in or taken out, as its plan has room for.
-use mathlib.Core.Path.{◌≡◌, sym, ap, ◌∙◌, subst}
+use mathlib.Core.Path.{◌≡◌, sym, ap, ◌∙◌}
 use mathlib.Core.Bool.{Bool, true, false}
-use mathlib.Core.List.{List, ◌∷◌, ◌++◌}
+use mathlib.Core.List.{List, [], ◌∷◌, ◌++◌}
 use Prim.Native.Nat.{ℕ, ◌+◌, ◌-◌, ◌*◌, ◌≤◌, ◌<◌}
+use native.Mathlib.Decide.{dec_lt}
 use native.Mathlib.Omega.{arith}
 use lib.Dec.{ltb}
-use lib.ListN.{length, take, drop, get_or, length-map}
+use lib.ListN.{length, take, drop, get_or, length-map, get_or-eq_default, get_or-map}
 use lib.Seq.{take_at}
 use Rattle.lists.specs.Lists.{total, deal, insert_at, without}
+use Rattle.lists.proofs.Members.{at_mem}
 use Rattle.lists.proofs.Filtered.{only-length}
 use Rattle.lists.proofs.Fill.{length_without}
 use Rattle.moves.specs.Moves.{Packed}
@@ -16,11 +18,10 @@ use Rattle.spreads.proofs.Packing.{total-all}
 use Rattle.slots.specs.Segments.{Segments, keys, segments_of, render}
 use Rattle.slots.specs.Keys.{changed}
 use Rattle.slots.proofs.Keys.{member→mem}
-use Rattle.slots.proofs.Tables.{counts-fit as fit}
 use Rattle.slots.proofs.Render.{length-render}
 use Rattle.slots.proofs.ByPlace.{put-at, cut_at, place-old}
 use Rattle.sowing.specs.Sown.{Planted}
-use Rattle.spreads.proofs.Gathered.{packed-keys}
+use Rattle.sowing.proofs.Gathered.{packed-keys}
 
 module _ {w counts plan : List ℕ} {p y : ℕ} {grows : Bool} (d : Planted w counts plan p y grows) where
   abbrev ss : Segments
@@ -37,7 +38,15 @@ module _ {w counts plan : List ℕ} {p y : ℕ} {grows : Bool} (d : Planted w co
   sized = ap length d.shows.whole ∙ length-render 0 ss d.shows.fits ∙ ap (λ (k : ℕ). 64 * k) (sym as_many)
 
   pub counts-fit : (k : ℕ) → get_or counts k 0 ≤ 64
-  counts-fit = subst (λ (ns : List ℕ). (k : ℕ) → get_or ns k 0 ≤ 64) (sym d.counted) (fit ss d.shows.fits)
+  counts-fit k =
+      let e : get_or counts k 0 ≡ length (get_or ss k []) = ap (λ (ns : List ℕ). get_or ns k 0) d.counted ∙ get_or-map length ss k [] in
+      elim (dec_lt k (length ss)) [
+        | yes i ↦ omega (arith, d.shows.fits (get_or ss k []) (at_mem ss k [] i))
+        | no o ↦
+            let q : length ss ≤ k = omega arith in
+            let z : length (get_or ss k []) ≡ 0 = ap length (get_or-eq_default ss [] q) in
+            omega arith
+      ]
 
   -- so its keys have room, and are few
   pub room : total counts ≤ length w

@@ -1,5 +1,5 @@
 -- Packed keys laid out in segments, one segment at a time from the last: what the loop of spread goes through.
-use mathlib.Core.Path.{◌≡◌, sym, ap, ◌∙◌, subst}
+use mathlib.Core.Path.{◌≡◌, refl, sym, ap, ◌∙◌, subst}
 use Prim.Native.Nat.{ℕ, suc, ◌+◌, ◌-◌, ◌*◌, ◌≤◌, ◌<◌}
 use native.Mathlib.Omega.{arith}
 use mathlib.Core.List.{List, ◌++◌, append_assoc, append-nil}
@@ -43,10 +43,9 @@ module _ {A : Type 0} where
       sym (ap (λ (t : List ℕ). take (64 * length cs) l ++ render z (deal t (drop at ks))) (drop-length cs)
       ∙ append-nil (take (64 * length cs) l) ∙ take_all (64 * length cs) l (omega arith))
 
-  pub laid-all : (z : A) (cs : List ℕ) (ks l : List A) (s at : ℕ) → s ≡ 0 → at ≡ total (take s cs) → Laid z cs ks l s at ≡ render z (deal cs ks)
+  pub laid-all : (z : A) (cs : List ℕ) (ks l : List A) → Laid z cs ks l 0 0 ≡ render z (deal cs ks)
   unfolding Laid
-  laid-all z cs ks l s at e q =
-      ap (λ (n : ℕ). Laid z cs ks l n at) e ∙ ap (λ (n : ℕ). render z (deal cs (drop n ks))) (q ∙ ap (λ (n : ℕ). total (take n cs)) e)
+  laid-all z cs ks l = refl
 
   -- what is in front of them is as it was
   pub laid-front : (z : A) (cs : List ℕ) (ks l : List A) (s at n : ℕ) → n ≤ 64 * s → 64 * s ≤ length l → take n (Laid z cs ks l s at) ≡ take n l

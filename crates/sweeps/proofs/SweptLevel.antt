@@ -39,7 +39,7 @@ use Rattle.records.specs.Asked.{asked}
 use Rattle.aims.specs.Aims.{seat_for, level_for}
 use Rattle.aims.proofs.Standing.{height-stands, good-stands}
 use Rattle.aims.proofs.Answers.{level-some}
-use Rattle.sweeps.specs.Acts.{cells_for, done_in, change_of, Acting}
+use Rattle.sweeps.specs.Acts.{cells_for, done_in, Acting}
 
 -- y is put in, or taken out, in segment s, and the window of level l round it is swept
 pub record Sweeps (S : Shares) (R : Room) (g : Bool) (y l s : ℕ) : Type 0 where
@@ -51,7 +51,7 @@ pub record Sweeps (S : Shares) (R : Room) (g : Bool) (y l s : ℕ) : Type 0 wher
   pub fresh : g ≡ true → T (not (member y (keys R.segments)))
   pub there : g ≡ false → Mem y (get_or R.segments s [])
   pub marks : (slots table : List ℕ) (N : Forecast) → Shows R.segments slots → CountsOf R.segments table → used_cells N ≡ cells_for S g y R
-      → Marking slots table N (record { first = start l s; n = 2 ^ l; change = change_of g y }) R.segments
+      → Marking slots table N (record { first = start l s; n = 2 ^ l; key = y; grows = g }) R.segments
   pub front : front_weight l s (cells_for S g y R) ≤ 12
 
 -- a level that is found

@@ -15,8 +15,6 @@ use Rattle.rules.specs.Placing.{Room, Outcome, home, put_in, cut_from, front_wei
 use Rattle.rules.specs.Calls.{room_of}
 use Rattle.shares.specs.declared.Shape.{Shape}
 use Rattle.shares.specs.Rows.{shares_at}
-use Rattle.marks.specs.declared.Change.{Change}
-use Rattle.marks.specs.declared.Change.TheVariants.{PutIn, TakenOut}
 use Rattle.seats.specs.Bounds.{Indexed}
 use Rattle.aims.specs.declared.Aim.{Aim}
 use Rattle.records.specs.Asked.{asked}
@@ -30,11 +28,6 @@ cells_for S false y R = dropped y R.cells
 abbrev pub done_in : Bool → ℕ → Segments → Segments
 done_in true y ss = put_in y ss
 done_in false y ss = cut_from y ss
-
--- What it does to the keys of a window that its key belongs in.
-abbrev pub change_of : Bool → ℕ → Change
-change_of true y = PutIn y
-change_of false y = TakenOut y
 
 -- What the request comes to by the rules.
 abbrev pub outcome_of : List ℕ → Forecast → Shape → Aim → Outcome

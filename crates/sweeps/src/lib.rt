@@ -8,11 +8,11 @@ ghost use Rattle.seats.specs.Bounds.{Indexed};
 ghost use Rattle.cells.specs.Cells.{weight};
 ghost use Rattle.forecast.specs.Cells.{used_cells};
 ghost use Rattle.forecast.specs.Tidy.{Tidy};
-ghost use Rattle.sweeps.specs.Acts.{change_of, outcome_of, Acting, Noted, Planned, Left};
+ghost use Rattle.sweeps.specs.Acts.{outcome_of, Acting, Noted, Planned, Left};
 
 use aims::Aim;
 use forecast::Forecast;
-use marks::{Change, Window};
+use marks::Window;
 use shares::Shape;
 
 // The front's weight, in a window that begins at segment 0.
@@ -26,17 +26,7 @@ fn front_weight(forecast: Forecast, first: usize) -> usize
     0
 }
 
-// What the request does to the window's keys.
-fn change_of(grows: bool, key: u64) -> Change
-    ensures { result ≡ change_of grows key }
-{
-    if grows {
-        return Change::PutIn(key);
-    }
-    Change::TakenOut(key)
-}
-
-// How many keys each segment of the window gets that the request sweeps, into `plan`.
+// How many keys each segment of the window gets that the request sweeps, into `plan`: the keys that weigh are marked where they will stand.
 pub fn plan_sweep(
     list: &[u64],
     table: &[usize],
@@ -54,20 +44,40 @@ pub fn plan_sweep(
     let segment = aim.segment;
     let n = shares::power(level);
     let first = segment / n * n;
-    let change = change_of(aim.grows, aim.key);
-    let w = Window { first, n, change };
+    let w = Window {
+        first,
+        n,
+        key: aim.key,
+        grows: aim.grows,
+    };
+    let mut at = [0; 12];
+    let mut weights = [0; 12];
+    let r = marks::mark(list, table, forecast, w, &mut at, &mut weights);
     let front = front_weight(forecast, first);
-    drafts::draft(
-        list,
-        table,
-        forecast,
-        w,
-        aim.moves,
-        front,
-        shape,
+    let part = planning::parting::whole(&weights[..r], aim.moves, front);
+    let lows = shape.lows;
+    let highs = shape.highs;
+    planning::splitting::plan_window(
+        &at[..r],
+        &weights[..r],
+        part,
+        &lows,
+        &highs,
         level,
         &mut plan[..n],
     );
+}
+
+// The counts of a plan in their places, from `first` on.
+fn keep(table: &mut [usize], first: usize, plan: &[usize])
+    requires { first + length plan.now ≤ length table.old }
+    ensures { table.new ≡ splice first (length plan.now) plan.now table.old }
+{
+    let mut i = 0;
+    while i < plan.len() {
+        table[first + i] = plan[i];
+        i += 1;
+    }
 }
 
 // The counts of a plan in the table, and the sums of the windows over them.
@@ -76,7 +86,7 @@ fn recount(table: &mut [usize], first: usize, plan: &[usize])
     ensures { (h : ℕ) (ss window : Segments) → length ss ≡ 2 ^ h → table.old ≡ table_of h ss → map length window ≡ plan.now → table.new ≡ table_of h (splice first (length plan.now) window ss) }
 {
     let n = table.len() / 2 + 1;
-    tables::filling::keep(table, first, plan);
+    keep(table, first, plan);
     tables::summing::sum_over(table, n, first, first + plan.len() - 1);
 }
 

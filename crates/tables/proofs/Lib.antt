@@ -3,5 +3,3 @@ pub mod RightTables
 pub mod Resums
 pub mod Spliced
 pub mod Cleared
-pub mod Written
-pub mod Filled

@@ -1,4 +1,3 @@
 // The table beside a list: one count for every window of every level, segments first, each level left to right.
-pub mod filling;
 pub mod keeping;
 pub mod summing;

@@ -6,7 +6,7 @@ use mathlib.Core.Logic.{◌≢◌}
 use lib.Dec.{T, ltb, ltb→lt}
 use borrow.Author.Tests.{lt-ltb, le-ltb}
 use Rattle.lists.proofs.Tests.{and_left}
-use Rattle.rules.specs.declared.Refusal.TheVariants.{UnknownProfile, WrongLength, WrongCards, WrongOrder, CardInGap, TooManyKeys, WrongForecast, WrongTable, NoFit, KeyZero, KeyPresent, KeyAbsent, Full, BadRecord, AllowancePassed}
+use Rattle.rules.specs.declared.Refusal.TheVariants.{UnknownProfile, WrongLength, WrongCards, WrongOrder, CardInGap, TooManyKeys, WrongForecast, WrongTable, KeyZero, KeyPresent, KeyAbsent, Full, BadRecord, AllowancePassed}
 use Rattle.rules.specs.declared.Verdict.{Verdict}
 use Rattle.rules.specs.declared.Verdict.TheVariants.{Refused, Accepted}
 use Rattle.rules.specs.Refusals.{verdict_number}
@@ -25,7 +25,6 @@ told (Refused CardInGap) = (refl, refl)
 told (Refused TooManyKeys) = (refl, refl)
 told (Refused WrongForecast) = (refl, refl)
 told (Refused WrongTable) = (refl, refl)
-told (Refused NoFit) = (refl, refl)
 told (Refused KeyZero) = (refl, refl)
 told (Refused KeyPresent) = (refl, refl)
 told (Refused KeyAbsent) = (refl, refl)

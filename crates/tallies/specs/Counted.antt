@@ -17,7 +17,6 @@ stops_run Refusal.CardInGap = false
 stops_run Refusal.TooManyKeys = false
 stops_run Refusal.WrongForecast = false
 stops_run Refusal.WrongTable = false
-stops_run Refusal.NoFit = false
 stops_run Refusal.KeyZero = false
 stops_run Refusal.KeyPresent = false
 stops_run Refusal.KeyAbsent = false

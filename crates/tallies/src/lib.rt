@@ -18,7 +18,6 @@ fn refusal_stops(refusal: Refusal) -> bool
         Refusal::TooManyKeys => false,
         Refusal::WrongForecast => false,
         Refusal::WrongTable => false,
-        Refusal::NoFit => false,
         Refusal::KeyZero => false,
         Refusal::KeyPresent => false,
         Refusal::KeyAbsent => false,

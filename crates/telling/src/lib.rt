@@ -1,11 +1,9 @@
 // What each answer tells in numbers, for C calls and programs: the paper's number, and its values (yes is 1, no is 0).
 ghost use Rattle.std.specs.Prelude.{◌≡◌};
-ghost use Rattle.answers.specs.Answers.{make_number, check_number, lookup_paper, scan_paper, insert_paper, delete_paper, recopy_paper};
+ghost use Rattle.answers.specs.Answers.{make_number, check_number, lookup_paper, scan_paper, insert_paper, delete_paper};
 ghost use Rattle.telling.specs.Told.{found_words, scanned_words, answer_words};
 
-use answers::{
-    CheckAnswer, DeleteAnswer, InsertAnswer, LookupAnswer, MakeAnswer, RecopyAnswer, ScanAnswer,
-};
+use answers::{CheckAnswer, DeleteAnswer, InsertAnswer, LookupAnswer, MakeAnswer, ScanAnswer};
 use given::Told;
 use words::numbers::refusal_number;
 
@@ -107,21 +105,6 @@ pub fn delete_told(answer: DeleteAnswer) -> Told
             number: 0,
             first: moves,
             second: 1,
-            third: 0,
-        },
-    }
-}
-
-// The keys copied.
-pub fn recopy_told(answer: RecopyAnswer) -> Told
-    ensures { result ≡ answer_words (recopy_paper answer) }
-{
-    match answer {
-        RecopyAnswer::Refused(refusal) => number_alone(refusal_number(refusal)),
-        RecopyAnswer::Recopied(moves) => Told {
-            number: 0,
-            first: moves,
-            second: 0,
             third: 0,
         },
     }

@@ -1,7 +1,6 @@
 // Works the commands of its standard input on one array, its cards, table and forecast, in one profile at a time, through the public calls, and
 // writes what each answers. A command is 25 bytes: what is asked, and three numbers, high byte first.
 mod calling;
-mod moving;
 mod showing;
 
 ghost use Rattle.std.specs.Prelude.{◌≤◌, ◌+◌, length};
@@ -18,18 +17,18 @@ pub struct Command {
 
 // The profile's number, and how many slots, cards and entries of the table are lent.
 #[derive(Drop)]
-pub struct Lent {
-    pub profile: u64,
-    pub len: usize,
-    pub held: usize,
-    pub entries: usize,
+struct Lent {
+    profile: u64,
+    len: usize,
+    held: usize,
+    entries: usize,
 }
 
 // The forecast, and what is lent with it.
 #[derive(Drop)]
-pub struct Room {
-    pub forecast: Forecast,
-    pub lent: Lent,
+struct Room {
+    forecast: Forecast,
+    lent: Lent,
 }
 
 // Eight bytes as a number, high byte first.
@@ -123,36 +122,23 @@ fn work(slots: &mut [u64], cards: &mut [u32], table: &mut [usize], room: Room, c
     Room { forecast, lent }
 }
 
-// A recopy, or any other command.
-fn step(slots: &mut [u64], cards: &mut [u32], table: &mut [usize], room: Room, c: Command) -> Room {
-    if c.ask == 15 {
-        return moving::elsewhere(slots, cards, table, room, c);
-    }
-    work(slots, cards, table, room, c)
-}
-
-// The list that nothing was lent for yet.
-fn nothing_lent() -> Room {
+fn play(input: &[u8], slots: &mut [u64], cards: &mut [u32], table: &mut [usize]) {
     let lent = Lent {
         profile: 1,
         len: 0,
         held: 0,
         entries: 0,
     };
-    Room {
+    let mut room = Room {
         forecast: Forecast::empty(),
         lent,
-    }
-}
-
-fn play(input: &[u8], slots: &mut [u64], cards: &mut [u32], table: &mut [usize]) {
-    let mut room = nothing_lent();
+    };
     let n = input.len() / 25;
     let mut i = 0;
     while i < n {
         let c = command_at(input, 25 * i);
         i += 1;
-        room = step(slots, cards, table, room, c);
+        room = work(slots, cards, table, room, c);
     }
 }
 

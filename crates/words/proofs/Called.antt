@@ -23,14 +23,12 @@ use Rattle.rules.specs.Shares.{cells_of}
 use Rattle.rules.specs.Placing.{refused}
 use Rattle.rules.specs.Lent.{Lent}
 use Rattle.rules.specs.Checks.{shares_of, check_cards, then_forecast, then_table, check, check_list, check_both}
-use Rattle.rules.specs.Calls.{Called, unchanged, request, recopy, Worked, stopped_at_once, run}
+use Rattle.rules.specs.Calls.{Called, request, Worked, stopped_at_once, run}
 use Rattle.demands.proofs.Requests.Checked.{passed, both-pass}
 use Rattle.demands.proofs.Requests.CardsChecked.{cards-tested}
 use Rattle.demands.proofs.Requests.Tabled.{room-passes}
 use Rattle.demands.proofs.Requests.SingleCalls.{request-unchecked}
 use Rattle.demands.proofs.Refusals.Refused.{request-refused}
-use Rattle.demands.proofs.Recopying.OneCall.{recopy-unchecked}
-use Rattle.demands.proofs.Recopying.Refusing.{recopy-refused}
 use Rattle.demands.proofs.Running.Runs.{run-refused}
 use Rattle.words.specs.Words.{saturated}
 use Rattle.words.proofs.Saturated.{fault-same, sound-same}
@@ -75,42 +73,36 @@ module _ (profile : ℕ) (L : Lent) (F : Forecast) where
   pub checked-same : check profile L F ≡ 0 → Roomy F → saturated F ≡ F
   checked-same e r = held_whole profile L.slots F (room-passes profile L F e) r
 
--- A CALL: how one on the saturated forecast, c', stands to that on the forecast lent
+-- A REQUEST: how a request on the saturated forecast c' stands to that on the forecast lent
 pub record SameCall (F : Forecast) (c' c : Called) : Type 0 where
   pub answer : c'.answer ≡ c.answer
   pub lent : c'.lent ≡ c.lent
   pub done : c.answer.number ≡ 0 → c'.forecast ≡ c.forecast
   pub left : c.answer.number ≢ 0 → c.forecast ≡ F
 
--- any call that the check stops, with X left, and that hands the forecast back where it is refused
-call_same : (profile : ℕ) (L : Lent) (X : Lent) (call : Forecast → Called) → ((G : Forecast) → check profile L G ≢ 0 → call G ≡ unchanged X G (check profile L G))
-    → ((G : Forecast) → (call G).answer.number ≢ 0 → (call G).forecast ≡ G) → (F : Forecast) → Roomy F → SameCall F (call (saturated F)) (call F)
-call_same profile L X call stops back F r =
+-- v is the card that comes with it
+pub request-same : (profile : ℕ) (q : Request) (v : ℕ) (L : Lent) (F : Forecast) → Roomy F → SameCall F (request profile q v L (saturated F)) (request profile q v L F)
+request-same profile q v L F r =
     elim (tested (eqb (check profile L F) 0)) [
       | inl t ↦
-          (let e : call (saturated F) ≡ call F = ap call (checked-same profile L F (eqb→eq _ _ t) r) in
-          record { answer = ap (λ (c : Called). c.answer) e; lent = ap (λ (c : Called). c.lent) e; done = λ z. ap (λ (c : Called). c.forecast) e; left = back F })
+          (let e : request profile q v L (saturated F) ≡ request profile q v L F = ap (request profile q v L) (checked-same profile L F (eqb→eq _ _ t) r) in
+          record {
+            answer = ap (λ (c : Called). c.answer) e;
+            lent = ap (λ (c : Called). c.lent) e;
+            done = λ z. ap (λ (c : Called). c.forecast) e;
+            left = λ z. ap (λ (c : Called). c.forecast) (request-refused profile q v L F z);
+          })
       | inr t ↦
           (let n : check profile L F ≢ 0 = neqb→ne _ _ t in
-          let e = stops F n in
-          let e' = stops (saturated F) (λ z. n (sym (check-same profile L F) ∙ z)) in
+          let e = request-unchecked profile q v L F n in
+          let e' = request-unchecked profile q v L (saturated F) (λ z. n (sym (check-same profile L F) ∙ z)) in
           record {
             answer = ap (λ (c : Called). c.answer) e' ∙ ap refused (check-same profile L F) ∙ sym (ap (λ (c : Called). c.answer) e);
             lent = ap (λ (c : Called). c.lent) e' ∙ sym (ap (λ (c : Called). c.lent) e);
             done = λ z. absurd (n (sym (ap (λ (c : Called). c.answer.number) e) ∙ z));
-            left = back F;
+            left = λ z. ap (λ (c : Called). c.forecast) (request-refused profile q v L F z);
           })
     ]
-
--- v is the card that comes with it
-pub request-same : (profile : ℕ) (q : Request) (v : ℕ) (L : Lent) (F : Forecast) → Roomy F → SameCall F (request profile q v L (saturated F)) (request profile q v L F)
-request-same profile q v L =
-    call_same profile L L (request profile q v L) (request-unchecked profile q v L) (λ G z. ap (λ (c : Called). c.forecast) (request-refused profile q v L G z))
-
--- A RECOPY
-pub recopy-same : (profile : ℕ) (L target : Lent) (F : Forecast) → Roomy F → SameCall F (recopy profile L (saturated F) target) (recopy profile L F target)
-recopy-same profile L target =
-    call_same profile L target (λ G. recopy profile L G target) (λ G. recopy-unchecked profile L G target) (λ G z. ap (λ (c : Called). c.forecast) (recopy-refused profile L G target z))
 
 -- A RUN
 pub record SameRun (profile : ℕ) (L : Lent) (F : Forecast) (w' w : Worked) : Type 0 where

@@ -16,7 +16,6 @@ pub fn refusal_number(refusal: Refusal) -> u64
         Refusal::TooManyKeys => 3,
         Refusal::WrongForecast => 4,
         Refusal::WrongTable => 14,
-        Refusal::NoFit => 11,
         Refusal::KeyZero => 5,
         Refusal::KeyPresent => 6,
         Refusal::KeyAbsent => 7,

@@ -22,9 +22,9 @@ use Rattle.rules.specs.Placing.{Outcome, insert_key, delete_key, outcome}
 use Rattle.rules.specs.Looking.{Found, Scanned, scanned}
 use Rattle.rules.specs.Cards.{gap_card, carded}
 use Rattle.rules.specs.Lent.{Lent, cards_of, right_table}
-use Rattle.rules.specs.Checks.{shares_of, check_cards, then_forecast, then_table, check_read, check, check_filled}
+use Rattle.rules.specs.Checks.{shares_of, check_cards, then_forecast, then_table, check_read, check}
 use Rattle.rules.specs.Calls.{room_of, Made, make, lookup, scan, Called, unchanged, changed, request}
-use Rattle.demands.specs.Rows.{Row, Tells, row1, row15, row2, row3, row4, row5, row6, row7, row8, row12, row13, row14, row14_size, filled_rows, list_rows, read_rows, both_rows}
+use Rattle.demands.specs.Rows.{Row, Tells, row1, row15, row2, row3, row4, row5, row6, row7, row8, row12, row13, row14, row14_size, list_rows, read_rows, both_rows}
 use Rattle.forecast.specs.Tidy.{Roomy}
 use Rattle.demands.specs.Demand1.{MakeTells, CheckTells, CheckPasses, LookupTells, ScanTells, InsertTells, DeleteTells}
 use Rattle.demands.proofs.Requests.Accepted.{settled-number}
@@ -38,25 +38,17 @@ use Rattle.demands.proofs.Refusals.Row4.{decides-4}
 use Rattle.demands.proofs.Refusals.Row13.{decides-12, decides-13}
 use Rattle.demands.proofs.Refusals.Row14.{decides-14, decides-14-size}
 
-abbrev pub itself : ℕ → ℕ
+abbrev itself : ℕ → ℕ
 itself n = n
 
--- WHAT IS TO BE FILLED, and making empty
-pub filled-numbered : (L : Lent) → Numbered (filled_rows L)
-filled-numbered L = omega arith
-
-pub filled-tells : (L : Lent) → Tells (filled_rows L) (check_filled L)
-unfolding check_filled
-filled-tells L =
-    tells-if itself (eqb (height_of (length L.slots)) 0) (row1 L.slots) (row12 L ∷ row14_size L ∷ []) 1 _ refl (decides-1 L.slots) λ u.
-    tells-if itself (not (eqb (length L.cards) (length L.slots))) (row12 L) (row14_size L ∷ []) 12 _ refl (decides-12 L) λ s.
-    tells-if itself (not (eqb (length L.table) (table_size (height_of (length L.slots))))) (row14_size L) [] 14 0 refl (decides-14-size L u) λ v. refl
-
+-- MAKE
 pub make-tells : MakeTells
 unfolding make
 make-tells profile L =
-    tells-if (λ (m : Made). m.number) (not (is_profile profile)) (row15 profile) (filled_rows L) _ _ refl (decides-15 profile) λ t.
-    tells_more (λ (m : Made). m.number) (filled_rows L) [] (check_filled L) _ _ (filled-numbered L) (filled-tells L) refl λ e. refl
+    tells-if (λ (m : Made). m.number) (not (is_profile profile)) (row15 profile) (row1 L.slots ∷ row12 L ∷ row14_size L ∷ []) _ _ refl (decides-15 profile) λ t.
+    tells-if (λ (m : Made). m.number) (eqb (height_of (length L.slots)) 0) (row1 L.slots) (row12 L ∷ row14_size L ∷ []) _ _ refl (decides-1 L.slots) λ u.
+    tells-if (λ (m : Made). m.number) (not (eqb (length L.cards) (length L.slots))) (row12 L) (row14_size L ∷ []) _ _ refl (decides-12 L) λ s.
+    tells-if (λ (m : Made). m.number) (not (eqb (length L.table) (table_size (height_of (length L.slots))))) (row14_size L) [] _ _ refl (decides-14-size L u) (λ v. refl)
 
 -- CHECK, of the list and its cards
 list-numbered : (profile : ℕ) (L : Lent) → Numbered (list_rows profile L)
@@ -100,7 +92,7 @@ forecast-tells profile L F r =
     tells-if itself (not (is_sound (fault_of (cells_of (shares_of profile L.slots)) (segments_of L.slots) F))) (row4 L.slots F) [] 4 0 refl
     (decides-4 profile L.slots (cards-before profile L e) F r) λ t. refl
 
-pub both-numbered : (profile : ℕ) (L : Lent) (F : Forecast) → Numbered (both_rows profile L F)
+both-numbered : (profile : ℕ) (L : Lent) (F : Forecast) → Numbered (both_rows profile L F)
 both-numbered profile L F = omega arith
 
 pub check-tells : CheckTells

@@ -6,15 +6,16 @@ use mathlib.Core.List.{[]}
 use lib.Dec.{T, eqb, eqb→eq}
 use lib.ListN.{length, replicate}
 use Rattle.lists.specs.Choice.{if◌then◌else◌}
-use Rattle.slots.specs.Segments.{segments_of, keys}
+use Rattle.slots.specs.Segments.{height_of, segments_of, keys}
 use Rattle.slots.specs.Keys.{member, segment_of}
+use Rattle.levels.specs.Tables.{table_size}
 use Rattle.forecast.specs.Cells.{forecast_of}
 use Rattle.rules.specs.Profiles.{is_profile}
 use Rattle.rules.specs.Placing.{Outcome, outcome}
 use Rattle.rules.specs.Looking.{Found, not_found, looked_up, Scanned, scanned}
 use Rattle.rules.specs.Cards.{carded}
 use Rattle.rules.specs.Lent.{lend, cards_of}
-use Rattle.rules.specs.Checks.{shares_of, check_read, check, check_filled}
+use Rattle.rules.specs.Checks.{shares_of, check_read, check}
 use Rattle.rules.specs.Calls.{room_of, Made, not_made, make, lookup, scan, Called, unchanged, changed, request}
 use Rattle.demands.specs.Demand1.{RequestRefused, LookupRefused, ScanRefused, MakeRefused}
 
@@ -70,19 +71,24 @@ scan-refused profile L a out cards = go (eqb (check_read profile L) 0)
 -- making empty
 pub make-refused : MakeRefused
 unfolding make
-make-refused profile L = go (is_profile profile) (eqb (check_filled L) 0)
+make-refused profile L =
+    go (is_profile profile) (eqb (height_of (length L.slots)) 0) (eqb (length L.cards) (length L.slots)) (eqb (length L.table) (table_size (height_of (length L.slots))))
   where
-    r : Bool → Bool → Made
-    r n c =
+    r : Bool → Bool → Bool → Bool → Made
+    r n c v t =
         if not n then not_made L 15
-        else if not c then not_made L (check_filled L)
+        else if c then not_made L 1
+        else if not v then not_made L 12
+        else if not t then not_made L 14
         else record {
           lent = lend (replicate (length L.slots) 0) (replicate (length L.cards) 0) (replicate (length L.table) 0);
           forecast = forecast_of [];
           number = 0;
         }
 
-    go : (n c : Bool) → (r n c).number ≢ 0 → r n c ≡ not_made L (r n c).number
-    go false c e = refl
-    go true false e = refl
-    go true true e = absurd (e refl)
+    go : (n c v t : Bool) → (r n c v t).number ≢ 0 → r n c v t ≡ not_made L (r n c v t).number
+    go false c v t e = refl
+    go true true v t e = refl
+    go true false false t e = refl
+    go true false true false e = refl
+    go true false true true e = absurd (e refl)

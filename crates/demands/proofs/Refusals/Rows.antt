@@ -4,6 +4,7 @@ use mathlib.Core.Bool.{not}
 use mathlib.Core.Logic.{inl, inr, ◌≢◌, ◌↔◌}
 use mathlib.Core.List.{List, Memᴰ as Mem}
 use Prim.Native.Nat.{ℕ, ◌*◌, ◌^◌, ◌≤◌}
+use native.Mathlib.Nat.{mul_comm}
 use native.Mathlib.Omega.{arith}
 use lib.Dec.{T, T_not, leb, ltb, eqb, eqb→eq, ltb→lt, nltb→le, leb→le, nleb→lt}
 use lib.ListN.{length}
@@ -19,9 +20,9 @@ use Rattle.rules.specs.Profiles.{is_profile, profile_of, most}
 use Rattle.rules.specs.Shares.{shares, capacity}
 use Rattle.rules.specs.Checks.{shares_of}
 use Rattle.demands.specs.Rows.{PresentIn, row1, row15, row2, row3, row5, row6, row7, row8}
+use Rattle.rules.proofs.Sharing.Table.{whole}
 use Rattle.rules.proofs.Sharing.Profiles.{one-or-two}
 use Rattle.demands.proofs.Requests.Checked.{Passed, keys-shown}
-use Rattle.demands.proofs.Recopying.Fits.{most-whole}
 use Rattle.demands.proofs.Refusals.RowsInOrder.{Decides}
 
 module _ (slots : List ℕ) where
@@ -50,7 +51,9 @@ decides-15 profile = (
 module _ (profile : ℕ) (slots : List ℕ) where
   -- what a list of a lawful length may hold, whatever h tells its length
   pub most-keys : (h : ℕ) → 1 ≤ h → h ≤ 6 → height_of (length slots) ≡ h → capacity (shares_of profile slots) ≡ most (profile_of profile) * 2 ^ h
-  most-keys h from to e = ap (λ (n : ℕ). capacity (shares (profile_of profile) n)) e ∙ most-whole (profile_of profile) h from to
+  most-keys h from to e =
+      ap (λ (n : ℕ). capacity (shares (profile_of profile) n)) e ∙ ap (λ (n : ℕ). 2 ^ h * n) (whole (profile_of profile) h from to).0
+      ∙ mul_comm (2 ^ h) (most (profile_of profile))
 
   room : 1 ≤ height_of (length slots) → height_of (length slots) ≤ 6 → capacity (shares_of profile slots) ≡ most (profile_of profile) * 2 ^ height_of (length slots)
   room from to = most-keys (height_of (length slots)) from to refl

@@ -6,7 +6,7 @@ use borrow.Author.Tests.{ne_eqb}
 use lib.Dec.{eqb}
 use Rattle.lists.specs.Choice.{if◌then◌else◌}
 use Rattle.rules.specs.declared.Refusal.{Refusal}
-use Rattle.rules.specs.declared.Refusal.TheVariants.{UnknownProfile, WrongLength, WrongCards, WrongOrder, CardInGap, TooManyKeys, WrongForecast, WrongTable, NoFit, KeyZero, KeyPresent, KeyAbsent, Full, BadRecord, AllowancePassed}
+use Rattle.rules.specs.declared.Refusal.TheVariants.{UnknownProfile, WrongLength, WrongCards, WrongOrder, CardInGap, TooManyKeys, WrongForecast, WrongTable, KeyZero, KeyPresent, KeyAbsent, Full, BadRecord, AllowancePassed}
 use Rattle.rules.specs.declared.Verdict.{Verdict}
 use Rattle.rules.specs.declared.Verdict.TheVariants.{Refused, Accepted}
 use Rattle.rules.specs.Refusals.{refusal_number, verdict_number}
@@ -22,7 +22,6 @@ named n =
     else if eqb n 3 then TooManyKeys
     else if eqb n 4 then WrongForecast
     else if eqb n 14 then WrongTable
-    else if eqb n 11 then NoFit
     else if eqb n 5 then KeyZero
     else if eqb n 6 then KeyPresent
     else if eqb n 7 then KeyAbsent
@@ -40,7 +39,6 @@ back CardInGap = (omega arith, refl)
 back TooManyKeys = (omega arith, refl)
 back WrongForecast = (omega arith, refl)
 back WrongTable = (omega arith, refl)
-back NoFit = (omega arith, refl)
 back KeyZero = (omega arith, refl)
 back KeyPresent = (omega arith, refl)
 back KeyAbsent = (omega arith, refl)

@@ -1,5 +1,5 @@
 -- A list made empty: it passes the check with its cards and its table, and has no key.
-use mathlib.Core.Path.{◌≡◌, refl, sym, ap, ◌∙◌}
+use mathlib.Core.Path.{◌≡◌, sym, ap, ◌∙◌}
 use mathlib.Core.Logic.{inl, inr}
 use mathlib.Core.List.Memᴰ.{cases_cons as mem-cases}
 use mathlib.Core.List.Memᴰ.{not-nil as nowhere}
@@ -20,12 +20,11 @@ use Rattle.forecast.specs.Cells.{forecast_of}
 use Rattle.rules.specs.declared.Profile.{Profile}
 use Rattle.rules.specs.Profiles.{is_profile, profile_of}
 use Rattle.rules.specs.Shares.{shares}
-use Rattle.rules.specs.Placing.{Room}
 use Rattle.rules.specs.Cards.{cards_beside}
 use Rattle.rules.specs.Lent.{Lent, lend, right_table, laid}
-use Rattle.rules.specs.Checks.{check_filled, check}
+use Rattle.rules.specs.Checks.{check}
 use Rattle.rules.specs.Calls.{Made, make}
-use Rattle.demands.specs.Demand2.{nothing_in}
+use Rattle.demands.specs.Demand2.{empty_room}
 use Rattle.demands.proofs.Cards.Beside.{beside-zeros}
 use Rattle.demands.proofs.Requests.StaysGood.{Good}
 use Rattle.demands.proofs.Requests.Checked.{table-render, check-render}
@@ -34,9 +33,6 @@ use Rattle.demands.proofs.Requests.Tabled.{laid-passes}
 no_size : (n m : ℕ) → All (λ (x : List ℕ). length x ≤ m) (replicate n [])
 no_size zero m x i = absurd (nowhere i)
 no_size (suc n) m x i = elim (mem-cases i) [ inl e ↦ rw e (omega arith) | inr k ↦ no_size n m x k ]
-
-abbrev pub empty_room : ℕ → Room
-empty_room h = (nothing_in h).room
 
 pub good-empty : (p : Profile) (h : ℕ) → Good (shares p h) (empty_room h)
 good-empty p h = record {
@@ -62,20 +58,15 @@ module _ (profile : ℕ) (known : T (is_profile profile)) (h : ℕ) (from : 1 �
     height : height_of (length L.slots) ≡ h
     height = ap height_of e ∙ height-is h from to
 
-    pub filled-passes : check_filled L ≡ 0
-    unfolding check_filled
-    filled-passes =
-        rw (
-          ne_eqb (height_of (length L.slots)) 0 (λ z. absurd (omega (arith, height))),
-          eq-eqb (length L.cards) (length L.slots) b,
-          eq-eqb (length L.table) (table_size (height_of (length L.slots))) (t ∙ ap table_size (sym height)),
-        ) refl
-
     pub made-is : make profile L ≡ record { lent = empty_lent h; forecast = forecast_of []; number = 0 }
     unfolding make
     made-is =
-        rw (is_true (is_profile profile) known, eq-eqb (check_filled L) 0 filled-passes)
-        (λ i. record { lent = lend (rows i) (cards i) (entries i); forecast = forecast_of []; number = 0 })
+        rw (
+          is_true (is_profile profile) known,
+          ne_eqb (height_of (length L.slots)) 0 (λ z. absurd (omega (arith, height))),
+          eq-eqb (length L.cards) (length L.slots) b,
+          eq-eqb (length L.table) (table_size (height_of (length L.slots))) (t ∙ ap table_size (sym height)),
+        ) (λ i. record { lent = lend (rows i) (cards i) (entries i); forecast = forecast_of []; number = 0 })
       where
         rows : replicate {A = ℕ} (length L.slots) 0 ≡ render 0 (replicate (2 ^ h) [])
         rows = ap (λ (n : ℕ). replicate {A = ℕ} n 0) e ∙ sym (render-empty {A = ℕ} 0 (2 ^ h))

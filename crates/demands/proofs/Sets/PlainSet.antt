@@ -1,29 +1,26 @@
--- The plain set is a set: what it has, what add, remove and beyond leave, and that it keeps within its array.
+-- The plain set is a set: what it has, and what add, remove and beyond leave.
 use mathlib.Core.Path.{◌≡◌, refl, sym, ap, subst}
-use mathlib.Core.Bool.{Bool, true, false, not, ◌&&◌}
+use mathlib.Core.Bool.{Bool, true, false, not}
 use mathlib.Core.Logic.{◌⊎◌, inl, inr, ◌≢◌, ◌↔◌}
 use mathlib.Core.List.Memᴰ.{head as here}
 use mathlib.Core.List.Memᴰ.{tail as there}
 use mathlib.Core.List.{List, [], ◌∷◌, Memᴰ as Mem}
 use mathlib.Core.List.Memᴰ.{append_cases as in_either}
 use mathlib.Core.List.Memᴰ.{cases_cons as mem-cases}
-use Prim.Native.Nat.{ℕ, suc, ◌*◌, ◌^◌, ◌≤◌, ◌<◌}
-use native.Mathlib.Nat.{mul-le-mul_right}
+use Prim.Native.Nat.{ℕ, suc, ◌≤◌, ◌<◌}
 use native.Mathlib.Omega.{arith}
-use lib.Dec.{T, leb, ltb, eqb, lt→ltb, ltb→lt, eqb→eq, leb→le, nleb→lt}
+use lib.Dec.{T, leb, ltb, eqb, lt→ltb, eqb→eq, nleb→lt}
 use borrow.Author.Tests.{eq-eqb, ne_eqb}
 use lib.ListN.{length}
 use Rattle.lists.specs.Choice.{if◌then◌else◌}
-use Rattle.lists.proofs.Tests.{either, tested, and_right, is_true, is_false}
+use Rattle.lists.proofs.Tests.{either, tested}
 use Rattle.lists.proofs.Filtered.{mem-only}
-use Rattle.slots.specs.Segments.{height_of}
 use Rattle.slots.specs.Keys.{Rising, member, below, cut}
 use Rattle.slots.proofs.Rising.{only-rising, put-rising, below-mem, above-mem, cut-rising, cut-mem, mem-cut}
 use Rattle.slots.proofs.Keys.{member→mem, mem→member}
 use Rattle.demands.specs.Demand2.{IsSet}
 use Rattle.demands.specs.PlainSet as set
 use Rattle.demands.proofs.Sets.SetLaws.{has-member, above-beyond, add_same, put-add, cut-remove}
-use Rattle.demands.proofs.Sets.SetRecopy.{recopy-may}
 
 module _ (y : ℕ) where
   -- the keys of a set with y added
@@ -76,45 +73,26 @@ module _ (y : ℕ) where
       let ih : length (set.remove y ks) ≤ length ks = length-remove ks in
       either (Within (suc (length ks))) (eqb y j) (omega arith) (omega arith)
 
--- WHATEVER IS ASKED a rising list of at most as many keys as its array allows stays one
-module _ (B : set.Bounds) where
-  abbrev Bounded : set.Events → Type 0
-  Bounded E = Rising E.keys × (length E.keys ≤ set.most_in B E)
+-- WHATEVER IS ASKED a rising list of at most `most` keys stays one
+abbrev Bounded : ℕ → set.Events → Type 0
+Bounded most E = Rising E.keys × (length E.keys ≤ most)
 
-  -- keys that may move to an array are at most what it allows: if they are few, it is the smallest one
-  may-most : B.few ≤ B.most → (h m : ℕ) → T (set.may_move B h m) → m ≤ B.most * 2 ^ h
-  may-most w h m =
-      go (ltb m (B.few * 2)) (ltb→lt m (B.few * 2)) (eqb h 1) (eqb→eq h 1)
-      (leb (B.few * 2 ^ h) m) (leb m (B.most * 2 ^ h)) (leb→le m (B.most * 2 ^ h))
-    where
-      go : (a : Bool) → (T a → m < B.few * 2) → (b : Bool) → (T b → h ≡ 1) → (c d : Bool) → (T d → m ≤ B.most * 2 ^ h)
-          → T (if a then b else c && d) → m ≤ B.most * 2 ^ h
-      go true p b q c d r t = rw (q t) (omega (arith, p tt, mul-le-mul_right 2 w))
-      go false p b q c d r t = r (and_right c d t)
+bounded-after : (most : ℕ) (a : set.Ask) (E : set.Events) → Bounded most E → Bounded most (set.after most a E)
+bounded-after most (set.Insert y v) E b = go (eqb y 0) (set.has y E.keys) (leb most (length E.keys)) (nleb→lt most (length E.keys))
+  where
+    go : (c d e : Bool) → (T (not e) → length E.keys < most) → Bounded most (if eqb (if c then 5 else if d then 6 else if e then 8 else 0) 0 then set.gain y v E else E)
+    go true d e p = b
+    go false true e p = b
+    go false false true p = b
+    go false false false p = (add-rising y E.keys b.0, omega (arith, length-add y E.keys, p tt))
+bounded-after most (set.Delete y) E b =
+    either (Bounded most) (eqb (set.delete_number y E.keys) 0) (remove-rising y E.keys b.0, omega (arith, length-remove y E.keys, b.1)) b
+bounded-after most (set.Lookup y) E b = b
+bounded-after most (set.Scan a out cards) E b = b
 
-  module _ (w : B.few ≤ B.most) where
-    bounded-after : (a : set.Ask) (E : set.Events) → Bounded E → Bounded (set.after B a E)
-    bounded-after (set.Insert y v) E b = go (eqb y 0) (set.has y E.keys) (leb (set.most_in B E) (length E.keys)) (nleb→lt (set.most_in B E) (length E.keys))
-      where
-        go : (c d e : Bool) → (T (not e) → length E.keys < set.most_in B E) → Bounded (if eqb (if c then 5 else if d then 6 else if e then 8 else 0) 0 then set.gain y v E else E)
-        go true d e p = b
-        go false true e p = b
-        go false false true p = b
-        go false false false p = (add-rising y E.keys b.0, omega (arith, length-add y E.keys, p tt))
-    bounded-after (set.Delete y) E b =
-        either Bounded (eqb (set.delete_number y E.keys) 0) (remove-rising y E.keys b.0, omega (arith, length-remove y E.keys, b.1)) b
-    bounded-after (set.Lookup y) E b = b
-    bounded-after (set.Scan a out cards) E b = b
-    bounded-after (set.Recopy slots cards table) E b =
-        elim (tested (eqb (set.recopy_number B slots cards table (length E.keys)) 0)) [
-          | inl t ↦ rw (is_true (eqb (set.recopy_number B slots cards table (length E.keys)) 0) t)
-              (b.0, may-most w (height_of (length slots)) (length E.keys) (recopy-may B slots cards table (length E.keys) (eqb→eq _ _ t)))
-          | inr t ↦ rw (is_false (eqb (set.recopy_number B slots cards table (length E.keys)) 0) t) b
-        ]
-
-    bounded-all : (asks : List set.Ask) (E : set.Events) → Bounded E → Bounded (set.after_all B asks E)
-    bounded-all [] E b = b
-    bounded-all (a ∷ asks) E b = bounded-all asks (set.after B a E) (bounded-after a E b)
+bounded-all : (most : ℕ) (asks : List set.Ask) (E : set.Events) → Bounded most E → Bounded most (set.after_all most asks E)
+bounded-all most [] E b = b
+bounded-all most (a ∷ asks) E b = bounded-all most asks (set.after most a E) (bounded-after most a E b)
 
 -- the statement of the specs, whole
 pub is_set : IsSet
@@ -125,7 +103,7 @@ is_set = record {
   remove = λ y ks. removed y ks;
   beyond = λ a ks k. rw (← above-beyond a ks) (λ m. above-mem a ks k m, λ p. mem-only (λ j. ltb a j) ks k p.1 (lt→ltb a k p.0));
   rising = λ a ks h. subst Rising (above-beyond a ks) (only-rising (λ k. ltb a k) ks h);
-  at_most = λ B w h asks. bounded-all B w asks (set.empty h) (tt, omega arith);
+  at_most = λ most asks. bounded-all most asks set.empty (tt, omega arith);
   gained = λ y v E. ap (λ (b : Bool). if b then v else E.card y) (eq-eqb y y refl);
   others = λ y v E k n. ap (λ (b : Bool). if b then v else E.card k) (ne_eqb k y n);
   lost = λ y E k. refl;

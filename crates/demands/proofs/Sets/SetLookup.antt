@@ -25,11 +25,11 @@ module _ (y : ℕ) (c : ℕ → ℕ) (ss : Segments) where
       go false true = refl
       go false false = refl
 
-  -- number, present and card, as the set has them, whatever its bounds and its array
-  pub lookup-told : (B : set.Bounds) (h : ℕ)
-      → set.Found (looked_up y c ss).number (looked_up y c ss).present (looked_up y c ss).card ≡ set.told B (set.Lookup y) (record { keys = keys ss; card = c; height = h })
+  -- number, present and card, as the set has them, whatever its bounds
+  pub lookup-told : (most few : ℕ)
+      → set.Found (looked_up y c ss).number (looked_up y c ss).present (looked_up y c ss).card ≡ set.told most few (set.Lookup y) (record { keys = keys ss; card = c })
   unfolding looked_up
-  lookup-told B h = rw (has-member y (keys ss)) (go (eqb y 0) (member y (keys ss)))
+  lookup-told most few = rw (has-member y (keys ss)) (go (eqb y 0) (member y (keys ss)))
     where
       go : (a b : Bool) → set.Found (chosen a b (segment_of ss y) (c y)).number (chosen a b (segment_of ss y) (c y)).present (chosen a b (segment_of ss y) (c y)).card
           ≡ (if a then set.Found 5 false 0 else if b then set.Found 0 true (c y) else set.Found 0 false 0)

@@ -124,11 +124,11 @@ module _ (a : ℕ) (c : ℕ → ℕ) (ss : Segments) (out cards : List ℕ) wher
       one-cut : (n : ℕ) × (take (length cards) (take (length out) (above a (keys ss))) ≡ take n (above a (keys ss)))
       one-cut = take-both (length cards) (length out) (above a (keys ss))
 
-  -- and all of it, whatever the set's bounds and its array
-  pub scan-told : (B : set.Bounds) (n : ℕ) → Rising (keys ss)
+  -- and all of it, whatever the set's bounds
+  pub scan-told : (most few : ℕ) → Rising (keys ss)
       → set.Scanned (scanned a c ss out cards).number (scanned a c ss out cards).written (scanned a c ss out cards).more (scanned a c ss out cards).output (scanned a c ss out cards).cards
-      ≡ set.told B (set.Scan a out cards) (record { keys = keys ss; card = c; height = n })
-  scan-told B n h = λ i. set.Scanned (scanned-number i) (scanned-written i) (scanned-more h i) (scanned-output i) (scanned-cards i)
+      ≡ set.told most few (set.Scan a out cards) (record { keys = keys ss; card = c })
+  scan-told most few h = λ i. set.Scanned (scanned-number i) (scanned-written i) (scanned-more h i) (scanned-output i) (scanned-cards i)
 
 -- Where either output is empty 0 keys are written, and more remain exactly if a live key above a exists.
 module _ (a : ℕ) (c : ℕ → ℕ) (ss : Segments) (out cards : List ℕ) (empty : (out ≡ []) ⊎ (cards ≡ [])) where

@@ -57,7 +57,7 @@ length-settled S s cs ss n b none h p q e = e
 length-settled S s cs ss n b (some l) h p q e = length-sweep S l s cs ss h p q e
 
 -- not within limits
-pub outside-limits : (S : Shares) (l c : ℕ) → T (not (within S l c)) → (2 ^ l * S.high l < c) ⊎ (c < 2 ^ l * S.low l)
+outside-limits : (S : Shares) (l c : ℕ) → T (not (within S l c)) → (2 ^ l * S.high l < c) ⊎ (c < 2 ^ l * S.low l)
 outside-limits S l c t =
     elim (dec_le (2 ^ l * S.low l) c) [
       | yes p ↦ elim (dec_le c (2 ^ l * S.high l)) [ yes q ↦ absurd (T_not (within S l c) t (limits→within S l c (p, q))) | no q ↦ inl (omega arith) ]

@@ -25,7 +25,6 @@ use Rattle.cells.specs.declared.Cell.{Cell}
 use Rattle.cells.specs.Cells.{weight}
 use Rattle.rules.specs.declared.Request.TheVariants.{Insert, Delete, Bad}
 use Rattle.rules.specs.Shares.{Shares, Lawful, capacity}
-use Rattle.rules.specs.SharingOut.{share_out}
 use Rattle.rules.specs.Placing.{Room, home, put_in, insert_level, delete_level, front_weight, new_window, sweep, settled, chosen, insert_key, delete_key}
 use Rattle.rules.specs.Readings.{Limits, Proper, InsertFinds}
 use Rattle.demands.specs.Demand3.{SizesKept}
@@ -38,18 +37,21 @@ use Rattle.demands.proofs.Requests.Moved.{asked-insert, asked-delete, keys-inser
 abbrev Sized : ℕ → Segments → Type 0
 Sized b ss = All (λ x. length x ≤ b) ss
 
--- the segments of a window that is shared out, by whatever weights
-pub shared-sized : (S : Shares) → Lawful S → (w : ℕ → ℕ) (f k : ℕ) (ks : List ℕ) → 1 ≤ k → k ≤ S.height → Limits S k k (length ks) → Sized (S.high 0) (share_out S w f k ks)
-shared-sized S L w f k ks p q h x m = omega (arith, c, rw (pow-zero 2) at i.1, L.falls 0 (omega arith))
+-- the segments of a window that is shared out
+new-sized : (S : Shares) → Lawful S → (k s : ℕ) (cs : List Cell) (ms : Segments) → 1 ≤ k → k ≤ S.height → Limits S k k (count k s ms) → Sized (S.high 0) (new_window S k s cs ms)
+new-sized S L k s cs ms p q h x m = omega (arith, c, rw (pow-zero 2) at i.1, L.falls 0 (omega arith))
   where
     new : Segments
-    new = share_out S w f k ks
+    new = new_window S k s cs ms
 
     a : (t : ℕ) × (t < length new) × (get_or new t [] ≡ x)
     a = mem-at x new [] m
 
+    e : length new ≡ 2 ^ k
+    e = length-share_out S (weight cs) (front_weight k s cs) k (keys (window k s ms))
+
     i : Limits S 0 1 (count 0 a.0 new)
-    i = inside-share_out S L w f k ks q h 0 a.0 p (omega (arith, a.1, length-share_out S w f k ks))
+    i = inside-share_out S L (weight cs) (front_weight k s cs) k (keys (window k s ms)) q h 0 a.0 p (omega (arith, a.1, e))
 
     c : count 0 a.0 new ≡ length x
     c = ap (λ (ys : Segments). length (keys ys)) (window-zero a.0 new [] a.1) ∙ ap length (append-nil (get_or new a.0 []) ∙ a.2)
@@ -64,7 +66,7 @@ module _ (S : Shares) (L : Lawful S) (m : ℕ) (h₀ : S.high 0 ≤ m) (ss : Seg
         | inl o ↦ z x (mem-take (start k s) ss x (subst (Mem x) (take-set-le (start k s) ss s new (start-le k s)) o))
         | inr o ↦
             elim (in_either (new_window S k s cs (set ss s new)) o) [
-              | inl i ↦ omega (arith, shared-sized S L (weight cs) (front_weight k s cs) k (keys (window k s (set ss s new))) a.0.0 a.1 (within→limits S k _ a.0.1) x i)
+              | inl i ↦ omega (arith, new-sized S L k s cs (set ss s new) a.0.0 a.1 (within→limits S k _ a.0.1) x i)
               | inr i ↦ z x (mem-drop (start k s + 2 ^ k) ss x (subst (Mem x) (drop-set-lt (start k s + 2 ^ k) ss s new (lt-end k s)) i))
             ]
       ]

@@ -1,9 +1,11 @@
 -- Without a sweep no cell has to be retargeted: the keys that were live are still in their segments.
-use mathlib.Core.Path.{◌≡◌, refl, sym, ap, ◌∙◌, subst}
+use mathlib.Core.Path.{◌≡◌, refl, sym, ap, ap₂, ◌∙◌, subst}
 use mathlib.Core.Bool.{Bool, not}
 use mathlib.Core.Logic.{◌⊎◌, inl, inr, ◌≢◌}
 use mathlib.Core.List.Memᴰ.{cases_cons as mem-cases}
-use mathlib.Core.List.{List, [], ◌∷◌}
+use mathlib.Core.List.Memᴰ.{head as here}
+use mathlib.Core.List.Memᴰ.{tail as there}
+use mathlib.Core.List.{List, [], ◌∷◌, map}
 use Prim.Native.Nat.{ℕ, zero, suc, ◌-◌, ◌<◌}
 use native.Mathlib.Decide.{dec_lt}
 use native.Mathlib.Omega.{arith}
@@ -14,7 +16,6 @@ use Rattle.lists.specs.Choice.{if◌then◌else◌}
 use Rattle.lists.specs.Search.{place_by}
 use Rattle.lists.proofs.Tests.{same_test}
 use Rattle.lists.proofs.Members.{at_mem, mem-take, mem-set}
-use Rattle.lists.proofs.Maps.{map-own}
 use Rattle.lists.proofs.Fill.{mem-without}
 use Rattle.slots.specs.Segments.{Segments, keys}
 use Rattle.slots.specs.Keys.{member, put, cut, predecessor, segment_of}
@@ -41,7 +42,11 @@ module _ (place : ℕ → ℕ) where
 
   -- cells that name their markers' segments stay as they are
   pub placed_same : (cs : List Cell) → Placed place cs → retargeted place cs ≡ cs
-  placed_same cs p = retargeted-is place cs ∙ map-own (aimed place) cs (λ c m. aimed_same c (p c m))
+  placed_same cs p = retargeted-is place cs ∙ go cs p
+    where
+      go : (cs : List Cell) → Placed place cs → map (aimed place) cs ≡ cs
+      go [] p = refl
+      go (c ∷ cs) p = ap₂ {C = List Cell} ◌∷◌ (aimed_same c (p c (here refl))) (go cs (λ d m. p d (there m)))
 
   placed-set : (cs : List Cell) (i : ℕ) (c : Cell) → Placed place cs → (i < length cs → Aims c) → Placed place (set cs i c)
   placed-set cs i c p q =

@@ -1,14 +1,14 @@
 -- `place_of` tells where a marker will stand, by the counts before its segment and its place there.
-use Rattle.std.proofs.Common.{◌≡◌, ℕ, ◌+◌, ◌-◌, ◌*◌, ◌≤◌, [], length, get_or, drop, arith, length-drop, length-take, rules}
+use Rattle.std.proofs.Common.{◌≡◌, ℕ, ◌+◌, ◌-◌, ◌*◌, ◌<◌, ◌≤◌, true, false, [], length, get_or, drop, arith, length-drop, length-take, rules}
 use mathlib.Core.List.{Memᴰ as Mem}
-use Rattle.slots.specs.Segments.{Segments, keys}
+use Rattle.slots.specs.Segments.{Segments}
 use Rattle.slots.specs.Keys.{below}
-use Rattle.marks.specs.Marking.{part, Asked}
-use Rattle.marks.proofs.Standing.{now-at, place_same, place-put-after, place-put-before, place-cut-after, place-cut-before}
+use Rattle.marks.specs.Marking.{after, Asked}
+use Rattle.marks.proofs.Standing.{place_same, place-more, place-less}
 use Rattle.marks.proofs.place_of.Statement.{statement}
 use Rattle.marks.proofs.place_of.Tie as tie
 
--- what the keys before and the keys below come to
+-- what the keys before and the keys below come to, with the request done
 module _ (P : tie.After-position) where
   abbrev s : tie.Start
   s = P.before.before.before.before.before.before
@@ -20,10 +20,20 @@ module _ (P : tie.After-position) where
   few = omega (arith, P.before.before.keys_in.ensures.0, P.position.ensures.0, s.pre.1.2 s.args.s (omega arith))
 
   module _ (ss : Segments) (q : Asked s.args.list.now s.args.counts.now s.args.w ss) (m : Mem s.args.marker (get_or ss s.args.s [])) where
-    now : b + P.position.result ≡ length (below s.args.marker (keys (part s.args.w ss)))
-    now =
-        now-at s.args.list.now s.args.counts.now s.args.w ss q s.pre.1.0 s.pre.1.1 s.args.s s.args.marker b P.position.result s.pre.0.0 s.pre.0.1 m
+    same : s.args.marker ≤ s.args.w.key → b + P.position.result ≡ length (below s.args.marker (after s.args.w ss))
+    same =
+        place_same s.args.list.now s.args.counts.now s.args.w ss q s.pre.1.0 s.pre.1.1 s.args.s s.args.marker b P.position.result s.pre.0.0 s.pre.0.1 m
         P.before.before.keys_in.ensures.1 P.position.ensures.1
+
+    more : s.args.w.grows ≡ true → s.args.w.key < s.args.marker → b + P.position.result + 1 ≡ length (below s.args.marker (after s.args.w ss))
+    more t =
+        place-more s.args.list.now s.args.counts.now s.args.w ss q s.pre.1.0 s.pre.1.1 s.args.s s.args.marker b P.position.result s.pre.0.0 s.pre.0.1 m
+        P.before.before.keys_in.ensures.1 P.position.ensures.1 (rw t tt)
+
+    less : s.args.w.grows ≡ false → s.args.w.key < s.args.marker → length (below s.args.marker (after s.args.w ss)) + 1 ≡ b + P.position.result
+    less t =
+        place-less s.args.list.now s.args.counts.now s.args.w ss q s.pre.1.0 s.pre.1.1 s.args.s s.args.marker b P.position.result s.pre.0.0 s.pre.0.1 m
+        P.before.before.keys_in.ensures.1 P.position.ensures.1 (rw t tt)
 
 mul-a : tie.Need-overflow-mul-a
 mul-a c = search rules
@@ -65,37 +75,20 @@ position-requires c κs =
 add-p : tie.Need-overflow-add-p
 add-p c = omega (arith, few c)
 
-enum_told : tie.Need-enum-told
-enum_told c = search rules
-
-enum-known-change : tie.Need-enum-known-change
-enum-known-change c = search rules
-
 returns : tie.Need-returns
-returns c = λ ss q m. place-put-after _ _ _ ss q _ _ (now c.before.before.before.before ss q m) _ c.before.before.change.given.1 c.if1.true
+returns c = λ ss q m. same c.before.before ss q m c.if1.true
 
 add-result : tie.Need-overflow-add-result
-add-result c = omega (arith, few c.before.before.before.before)
-
-enum-known-change-2 : tie.Need-enum-known-change-2
-enum-known-change-2 c = search rules
+add-result c = omega (arith, few c.before.before.before)
 
 returns-2 : tie.Need-returns-2
-returns-2 c = λ ss q m. place-cut-after _ _ _ ss q _ _ (now c.before.before.before.before ss q m) _ c.before.before.change2.given.1 c.if2.true
+returns-2 c = λ ss q m. more c.before.before.before ss q m c.if2.true c.before.if1.false
 
 wrapping-sub-usize-requires : tie.Need-wrapping-sub-usize-requires
 wrapping-sub-usize-requires c κs = search rules
 
 returns-3 : tie.Need-returns-3
-returns-3 c = λ ss q m. place_same _ _ _ ss q _ _ (now c.before.before ss q m) c.enum_told.given.1
-
-returns-4 : tie.Need-returns-4
-returns-4 c = λ ss q m. place-put-before _ _ _ ss q _ _ (now c.before.before.before.before ss q m) _ c.before.before.change.given.1 c.if1.false
-
-returns-5 : tie.Need-returns-5
-returns-5 c =
-    let P = c.before.before.before.before.before in
-    λ ss q m. omega (arith, few P, place-cut-before _ _ _ ss q _ _ (now P ss q m) _ c.before.before.before.change2.given.1 c.before.if2.false)
+returns-3 c = λ ss q m. omega (arith, few c.before.before.before.before, less c.before.before.before.before ss q m c.before.if2.false c.before.before.if1.false)
 
 pub place-of-spec : {M : Type 1} → statement M
 place-of-spec =
@@ -112,13 +105,8 @@ place-of-spec =
     part-position-end
     position-requires
     add-p
-    enum_told
-    enum-known-change
     returns
     add-result
-    enum-known-change-2
     returns-2
     wrapping-sub-usize-requires
-    returns-3
-    returns-4
-    returns-5)
+    returns-3)

@@ -20,7 +20,7 @@ use Rattle.rules.specs.Looking.{looked_up, scanned}
 use Rattle.rules.specs.Runs.{asking, record_of, records_of, work, ran}
 use Rattle.rules.specs.Cards.{card_at, cards_beside}
 use Rattle.rules.specs.Lent.{Lent, lend}
-use Rattle.rules.specs.Checks.{check_cards, then_forecast, then_table, check_read, check, check_filled}
+use Rattle.rules.specs.Checks.{check_cards, then_forecast, then_table, check_read, check}
 use Rattle.rules.specs.Calls.{not_made, make, lookup, scan, request, insert, delete, run, Worked}
 use Rattle.rules.proofs.Cases.RefusalCases.{slots}
 
@@ -39,7 +39,7 @@ unfolding record_of
 other-kinds = (refl, refl)
 
 -- THE CHECK tells 1 before 12, 12 before 2, 2 before 13 and 13 before 3
-abbrev pub falling : List ℕ
+abbrev falling : List ℕ
 falling = 2 ∷ 1 ∷ replicate 126 0
 
 pub told-in-order : (check_cards 1 (lend [] (1 ∷ []) []) ≡ 1) × (check_cards 1 (lend falling (replicate 127 0) []) ≡ 12) × (check_cards 1 (lend falling (replicate 128 1) []) ≡ 2)
@@ -49,17 +49,17 @@ told-in-order = (refl, refl, refl, refl)
 
 -- make tells 15 first, and 12 before 14, and leaves all
 pub make-told : (make 3 (lend falling (7 ∷ []) []) ≡ not_made (lend falling (7 ∷ []) []) 15) × (make 1 (lend falling (7 ∷ []) []) ≡ not_made (lend falling (7 ∷ []) []) 12)
-unfolding make height_of check_filled
+unfolding make height_of
 make-told = (refl, refl)
 
 -- WHERE EACH CARD STANDS. Two segments, filled from the left
-abbrev pub filled : List ℕ → List ℕ → List ℕ
+abbrev filled : List ℕ → List ℕ → List ℕ
 filled xs ys = xs ++ (replicate (64 - length xs) 0 ++ (ys ++ replicate (64 - length ys) 0))
 
 abbrev three : Lent
 three = lend (filled (10 ∷ 20 ∷ []) (30 ∷ [])) (filled (5 ∷ 6 ∷ []) (7 ∷ [])) (2 ∷ 1 ∷ 3 ∷ [])
 
-abbrev pub none : Forecast
+abbrev none : Forecast
 none = forecast_of []
 
 -- a gap has card 0, whatever the keys' cards

@@ -17,7 +17,7 @@ use Rattle.rules.specs.Placing.{outcome}
 use Rattle.rules.specs.Looking.{looked_up}
 use Rattle.rules.specs.Cards.{cards_beside}
 use Rattle.rules.specs.Lent.{Lent, lend, laid}
-use Rattle.rules.specs.Checks.{check_cards, then_forecast, then_table, check_read, check, check_filled}
+use Rattle.rules.specs.Checks.{check_cards, then_forecast, then_table, check_read, check}
 use Rattle.rules.specs.Calls.{make, lookup}
 use Rattle.rules.specs.Sums.{room, up_from}
 
@@ -62,7 +62,7 @@ handed-over = (refl, refl)
 
 -- an unknown profile is told before a wrong length
 profile-told-first : (check_cards 0 (blank []) ≡ 15) × (check_cards 3 (blank (slots 1 0)) ≡ 15) × (check_cards 1 (blank []) ≡ 1) × ((make 3 (lend [] [] [])).number ≡ 15)
-unfolding check_cards cards_beside table_of height_of order_of segments_of make check_filled
+unfolding check_cards cards_beside table_of height_of order_of segments_of make
 profile-told-first = (refl, refl, refl, refl)
 
 -- a bad forecast is told of a good list, and not of a bad one

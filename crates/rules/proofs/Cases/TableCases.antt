@@ -15,7 +15,7 @@ use Rattle.forecast.specs.Cells.{cells, forecast_of}
 use Rattle.forecast.specs.Faults.{fault_at, fault_of}
 use Rattle.rules.specs.Placing.{settled, insert_level, insert_key, outcome}
 use Rattle.rules.specs.Lent.{Lent, lend}
-use Rattle.rules.specs.Checks.{check_cards, then_forecast, then_table, check_read, check, check_filled}
+use Rattle.rules.specs.Checks.{check_cards, then_forecast, then_table, check_read, check}
 use Rattle.rules.specs.Calls.{not_made, make, lookup, scan, unchanged, request, insert}
 use Rattle.rules.proofs.Cases.RefusalCases.{slots, uncounted}
 
@@ -61,11 +61,11 @@ left-wrong = refl
 
 -- MAKE tests the length alone: it leaves all, or writes 0 in all
 pub make-short : make 1 (beside (2 ∷ 1 ∷ [])) ≡ not_made (beside (2 ∷ 1 ∷ [])) 14
-unfolding make height_of check_filled
+unfolding make height_of
 make-short = refl
 
 pub make-wrong-entries : (make 1 (beside (9 ∷ 9 ∷ 9 ∷ []))).lent ≡ lend (replicate 128 0) (replicate 128 0) (0 ∷ 0 ∷ 0 ∷ [])
-unfolding make height_of check_filled
+unfolding make height_of
 make-wrong-entries = refl
 
 -- AN INSERT leaves the table with one key more, and a refused one leaves it

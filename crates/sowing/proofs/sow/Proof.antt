@@ -1,10 +1,8 @@
 -- `sow` meets its contract: the keys packed, then dealt out with the key put in, or without it, each with its card.
-use Prim.Native.Nat.{◌-◌}
 use native.Mathlib.Omega.{arith}
 use borrow.Author.Rules.{rules}
 use Rattle.moves.specs.Moves.{Packed}
 use Rattle.gaps.proofs.Natural.{closed-kept}
-use Rattle.spreads.proofs.Dealt.{dealt-kept}
 use Rattle.sowing.specs.Sown.{Planted}
 use Rattle.sowing.proofs.Sown.{sized, counts-fit, room, keys-few, up_to, put_in, among, taken_out}
 use Rattle.sowing.proofs.sow.Statement.{statement}
@@ -74,9 +72,7 @@ returns-2 c =
     let closes = c.before.before.before.before.before.before.before.before.before.before.before.close-gap.ensures in
     let spreads = c.before.before.before.before.spread.ensures in (
       taken_out (given (s k)) (packed k) c.before.before.before.before.before.before.before.before.before.before.before.before.before.before.if1.false closes.0 spreads.0,
-      λ f z y h.
-          dealt-kept f 0 (s k).args.plan.now (k.pack.result - 1) 0 _ z (closed-kept f _ (k.pack.ensures.1 f h) k.pack.result (s k).args.p 0 0 z closes.0 closes.1)
-          spreads.0 spreads.1,
+      λ f z y h. spreads.1 f z (closed-kept f _ (k.pack.ensures.1 f h) k.pack.result (s k).args.p 0 0 z closes.0 closes.1),
     )
 
 pub sow-spec : {M : Type 1} → statement M

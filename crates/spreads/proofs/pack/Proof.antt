@@ -1,6 +1,5 @@
--- pack meets its contract. Invariant: the keys of the first s segments stand in front, all slots after them are as they were, and each has its
--- card.
-use mathlib.Core.Path.{◌≡◌, refl, sym, ap, ◌∙◌}
+-- pack meets its contract. Invariant: the keys of the first s segments stand in front, all slots after them are as they were, and each has its card.
+use mathlib.Core.Path.{◌≡◌, refl, ap, ◌∙◌}
 use Prim.Native.Nat.{ℕ, ◌*◌, ◌-◌, ◌≤◌, ◌<◌}
 use native.Mathlib.Numerals.{add-one}
 use native.Mathlib.Omega.{arith}
@@ -10,15 +9,14 @@ use lib.Seq.{take-length}
 use Rattle.lists.specs.Lists.{total}
 use Rattle.lists.proofs.Joined.{total-suc}
 use Rattle.moves.specs.Moves.{gather}
-use Rattle.moves.proofs.Gathering.{gather-length}
 use Rattle.gaps.proofs.Natural.{moved-kept}
-use Rattle.spreads.proofs.Packing.{pack-step}
+use Rattle.spreads.proofs.Packing.{pack-step, gather-length-suc}
 use Rattle.spreads.proofs.pack.Statement.{statement}
 use Rattle.spreads.proofs.pack.Tie as tie
 
 abbrev invariant-loop : tie.invariant-loop
 invariant-loop window₀ cards₀ counts at₀ s₀ window cards at s =
-    (s ≤ length counts) × (at ≤ 64 * s) × (at ≡ total (take s counts))
+    (s ≤ length counts) × (at ≤ 64 * s) × (at ≡ total (take s counts)) × (length (gather (take s counts) window₀) ≡ at)
     × (length window ≡ length window₀) × (length cards ≡ length cards₀) × (window ≡ gather (take s counts) window₀ ++ drop at window₀)
     × ((f : ℕ → ℕ) → cards₀ ≡ map f window₀ → cards ≡ map f window)
 
@@ -27,7 +25,7 @@ decreases-loop window₀ cards₀ counts at₀ s₀ window cards at s = length c
 
 loop-holds : tie.Need-loop-init invariant-loop decreases-loop
 unfolding gather
-loop-holds c = (omega arith, omega arith, refl, refl, refl, refl, λ f h. h)
+loop-holds c = (omega arith, omega arith, refl, refl, refl, refl, refl, λ f h. h)
 
 mul-c : tie.Need-overflow-mul-c invariant-loop decreases-loop
 mul-c c = omega arith
@@ -64,10 +62,11 @@ loop-again c =
       omega arith,
       omega arith,
       omega (arith, total-suc cs loop.s h),
+      gather-length-suc cs l loop.s loop.at h small start.requires.0 inv.3,
       omega arith,
       omega arith,
-      pack-step cs l loop.window loop.s loop.at h inv.1 (gather-length cs loop.s l start.requires.1.0 (omega arith) ∙ sym inv.2) inv.5 moves.0,
-      λ f k. moved-kept f loop.window (inv.6 f k) (64 * loop.s) loop.at (get_or cs loop.s 0) moves.0 moves.1,
+      pack-step cs l loop.window _ loop.s loop.at h inv.1 inv.3 inv.6 moves.0,
+      λ f k. moved-kept f loop.window (inv.7 f k) (64 * loop.s) loop.at (get_or cs loop.s 0) moves.0 moves.1,
     )
 
 same_length : tie.Need-same-length invariant-loop decreases-loop
@@ -83,7 +82,7 @@ returns c =
     let inv = c.before.loop.invariant in
     let e : c.before.loop.s ≡ length cs = omega arith in
     let all : take c.before.loop.s cs ≡ cs = ap (λ (n : ℕ). take n cs) e ∙ take-length cs in
-    (record { many = inv.2 ∙ ap total all; slots = inv.5 ∙ ap (λ (t : List ℕ). gather t l ++ drop c.before.loop.at l) all }, inv.6)
+    (record { many = inv.2 ∙ ap total all; slots = inv.6 ∙ ap (λ (t : List ℕ). gather t l ++ drop c.before.loop.at l) all }, inv.7)
 
 pub pack-spec : {M : Type 1} → statement M
 pack-spec =

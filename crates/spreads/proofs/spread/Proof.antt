@@ -1,9 +1,11 @@
--- spread meets its contract. Invariant: the segments from s on are laid out, the keys before them are still packed, and so with the cards.
+-- spread meets its contract. Invariant: the segments from s on are laid out, the keys before them are still packed, and each slot has its card.
 use mathlib.Core.Path.{◌≡◌, refl, sym, ap, ◌∙◌}
-use Prim.Native.Nat.{◌-◌, ◌≤◌, ◌<◌}
+use mathlib.Core.List.{map}
+use Prim.Native.Nat.{ℕ, ◌+◌, ◌*◌, ◌-◌, ◌≤◌, ◌<◌}
 use native.Mathlib.Omega.{arith}
-use lib.ListN.{length, take}
+use lib.ListN.{length, get_or, take}
 use lib.Seq.{take-length}
+use Rattle.gaps.proofs.Natural.{moved-kept, cleared-kept}
 use Rattle.lists.specs.Lists.{total}
 use Rattle.spreads.proofs.Packing.{total-bound, total-all, total-pred}
 use Rattle.spreads.proofs.Laying.{Laid, laid_none, laid-all, laid_out}
@@ -13,7 +15,7 @@ use Rattle.spreads.proofs.spread.Tie as tie
 abbrev invariant-loop : tie.invariant-loop
 invariant-loop window₀ cards₀ counts m at₀ s₀ window cards at s =
     (s ≤ length counts) × (at ≡ total (take s counts)) × (at ≤ m) × (length window ≡ length window₀) × (length cards ≡ length cards₀) × (m ≤ length window₀)
-    × (window ≡ Laid 0 counts (take m window₀) window₀ s at) × (cards ≡ Laid 0 counts (take m cards₀) cards₀ s at)
+    × (window ≡ Laid 0 counts (take m window₀) window₀ s at) × ((f : ℕ → ℕ) → f 0 ≡ 0 → cards₀ ≡ map f window₀ → cards ≡ map f window)
 
 abbrev decreases-loop : tie.decreases-loop
 decreases-loop window₀ cards₀ counts m at₀ s₀ window cards at s = s
@@ -22,7 +24,7 @@ loop-holds : tie.Need-loop-init invariant-loop decreases-loop
 loop-holds c =
     let start = c.before.before.before in
     let cs = start.args.counts.now in
-    (omega arith, sym start.requires.1.1.0 ∙ ap total (sym (take-length cs)), omega arith, refl, refl, omega (arith, total-all cs start.requires.1.0), laid_none 0 cs _ _ start.args.m start.requires.0, laid_none 0 cs _ _ start.args.m (omega arith))
+    (omega arith, sym start.requires.1.1.0 ∙ ap total (sym (take-length cs)), omega arith, refl, refl, omega (arith, total-all cs start.requires.1.0), laid_none 0 cs _ _ start.args.m start.requires.0, λ f z h. h)
 
 sub-s : tie.Need-overflow-sub-s invariant-loop decreases-loop
 sub-s c = omega arith
@@ -33,8 +35,8 @@ mul-c c = omega arith
 shared-slice-read-c : tie.Need-shared-slice-read-c invariant-loop decreases-loop
 shared-slice-read-c c = omega arith
 
-mul-first : tie.Need-overflow-mul-first invariant-loop decreases-loop
-mul-first c = omega arith
+mul-to : tie.Need-overflow-mul-to invariant-loop decreases-loop
+mul-to c = omega arith
 
 sub_at : tie.Need-overflow-sub-at invariant-loop decreases-loop
 sub_at c = omega (arith, total-pred c.before.before.before.before.before.before.args.counts.now c.before.before.loop.s (omega arith) (omega arith))
@@ -66,6 +68,7 @@ loop-again c =
     let inv = loop.invariant in
     let moves = c.before.before.before.before.before.before.before.before.before.before.before.move-right.ensures in
     let clears = c.before.before.before.before.clear.ensures in
+    let t = loop.s - 1 in
     let h : 0 < loop.s = omega arith in (
       omega arith,
       omega (arith, total-pred cs loop.s h inv.0),
@@ -74,7 +77,9 @@ loop-again c =
       omega arith,
       omega arith,
       laid_out 0 cs start.args.window.now loop.window _ _ start.args.m loop.s loop.at h inv.0 start.requires.0 start.requires.1.0 inv.1 inv.2 inv.5 inv.6 moves.0 clears.0,
-      laid_out 0 cs start.args.cards.now loop.cards _ _ start.args.m loop.s loop.at h inv.0 (omega arith) start.requires.1.0 inv.1 inv.2 (omega arith) inv.7 moves.1 clears.1,
+      λ f z k.
+          cleared-kept f _ (moved-kept f loop.window (inv.7 f z k) (loop.at - get_or cs t 0) (64 * t) (get_or cs t 0) moves.0 moves.1)
+          (64 * t + get_or cs t 0) (64 * t + 64) 0 0 z clears.0 clears.1,
     )
 
 same_length : tie.Need-same-length invariant-loop decreases-loop
@@ -86,11 +91,15 @@ same-length-2 c = omega arith
 returns : tie.Need-returns invariant-loop decreases-loop
 returns c =
     let a = c.before.before.before.before.before.args in
-    let cs = a.counts.now in
-    let loop = c.before.loop in
-    let inv = loop.invariant in (
-      inv.6 ∙ laid-all 0 cs (take a.m a.window.now) a.window.now loop.s loop.at (omega arith) inv.1,
-      inv.7 ∙ laid-all 0 cs (take a.m a.cards.now) a.cards.now loop.s loop.at (omega arith) inv.1,
+    let inv = c.before.loop.invariant in
+    let e : c.before.loop.s ≡ 0 = omega arith in
+    let e₀ : c.before.loop.at ≡ 0 = inv.1 ∙ ap (λ (n : ℕ). total (take n a.counts.now)) e in
+    let ks = take a.m a.window.now in (
+      inv.6
+          ∙ ap (λ (n : ℕ). Laid 0 a.counts.now ks a.window.now n c.before.loop.at) e
+          ∙ ap (λ (n : ℕ). Laid 0 a.counts.now ks a.window.now 0 n) e₀
+          ∙ laid-all 0 a.counts.now ks a.window.now,
+      inv.7,
     )
 
 pub spread-spec : {M : Type 1} → statement M
@@ -103,7 +112,7 @@ spread-spec =
     sub-s
     mul-c
     shared-slice-read-c
-    mul-first
+    mul-to
     sub_at
     move-right-requires
     add-clear

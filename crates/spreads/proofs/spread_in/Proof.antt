@@ -95,11 +95,14 @@ returns : tie.Need-returns invariant-loop decreases-loop
 returns c =
     let a = c.before.before.before.before.before.args in
     let inv = c.before.loop.invariant in
-    let cs = a.counts.now in
-    let l = a.window.now in (
+    let e : c.before.loop.s ≡ 0 = omega arith in
+    let e₀ : c.before.loop.at ≡ 0 = inv.1 ∙ ap (λ (n : ℕ). total (take n a.counts.now)) e in
+    let ks = take a.m (insert_at a.p a.key a.window.now) in (
       inv.6
-          ∙ laid-all 0 cs (take a.m (insert_at a.p a.key l)) l c.before.loop.s c.before.loop.at (omega arith) inv.1
-          ∙ ap (λ (t : List ℕ). render 0 (deal cs t)) (insert-keys a.key l a.m a.p (omega arith)),
+          ∙ ap (λ (n : ℕ). Laid 0 a.counts.now ks a.window.now n c.before.loop.at) e
+          ∙ ap (λ (n : ℕ). Laid 0 a.counts.now ks a.window.now 0 n) e₀
+          ∙ laid-all 0 a.counts.now ks a.window.now
+          ∙ ap (λ (t : List ℕ). render 0 (deal a.counts.now t)) (insert-keys a.key a.window.now a.m a.p (omega arith)),
       inv.7,
     )
 

@@ -13,8 +13,8 @@ invariant-loop input slots₀ cards₀ table₀ room₀ n i₀ slots cards table
 abbrev decreases-loop : tie.decreases-loop
 decreases-loop input slots₀ cards₀ table₀ room₀ n i₀ slots cards table room i = n - i
 
-nothing-lent-requires : tie.Need-nothing-lent-requires invariant-loop decreases-loop
-nothing-lent-requires c κs = search rules
+empty-requires : tie.Need-empty-requires invariant-loop decreases-loop
+empty-requires c κs = search rules
 
 loop-holds : tie.Need-loop-init invariant-loop decreases-loop
 loop-holds c = search rules
@@ -28,8 +28,8 @@ command-at-requires c κs = search rules
 add-i : tie.Need-overflow-add-i invariant-loop decreases-loop
 add-i c = search rules
 
-step-requires : tie.Need-step-requires invariant-loop decreases-loop
-step-requires c κs = search rules
+work-requires : tie.Need-work-requires invariant-loop decreases-loop
+work-requires c κs = search rules
 
 loop-less : tie.Need-loop-smaller invariant-loop decreases-loop
 loop-less c = search rules
@@ -55,12 +55,12 @@ play-spec =
     (tie.spec
     invariant-loop
     decreases-loop
-    nothing-lent-requires
+    empty-requires
     loop-holds
     mul-command-at
     command-at-requires
     add-i
-    step-requires
+    work-requires
     loop-less
     loop-again
     same_length

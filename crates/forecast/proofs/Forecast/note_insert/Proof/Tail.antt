@@ -1,9 +1,10 @@
 -- What one less for the tail leaves in the rows of a tidy forecast.
-use Prim.Native.Nat.{ℕ, ◌-◌, ◌≤◌, ◌<◌}
+use Prim.Native.Nat.{ℕ, ◌+◌, ◌-◌, ◌≤◌, ◌<◌}
 use mathlib.Core.Path.{◌≡◌, refl, sym, ap, ◌∙◌}
 use mathlib.Core.List.{List}
 use native.Mathlib.Omega.{arith}
 use lib.ListN.{length, take, get_or, set, length-set}
+use lib.Seq.{length-take-le}
 use Rattle.cells.specs.declared.Cell.{Cell}
 use Rattle.cells.specs.Cells.{zero_cell, with_count}
 use Rattle.cells.specs.Steps.{tailed}
@@ -11,9 +12,8 @@ use Rattle.cells.proofs.Laws.{tailed-gone, tailed-less}
 use Rattle.forecast.specs.declared.Forecast.{Forecast}
 use Rattle.forecast.specs.Cells.{used_cells}
 use Rattle.forecast.specs.Tidy.{Tidy, Became}
-use Rattle.forecast.proofs.Rows.{row-set, row_kept}
+use Rattle.forecast.proofs.Rows.{row-set, row_kept, row-less}
 use Rattle.forecast.proofs.Stepping.{made, became, cells-used, markers-row, segments-row, counts-row, count-is}
-use Rattle.forecast.proofs.Shorter.{tail-lost}
 
 module _ (F : Forecast) (t : Tidy F) (h : 0 < F.used) where
   abbrev us : List Cell
@@ -27,7 +27,16 @@ module _ (F : Forecast) (t : Tidy F) (h : 0 < F.used) where
 
   -- which goes
   pub lowered-gone : get_or F.counts tail 0 ≤ 1 → Became (tailed us) (made (set F.markers tail 0) (set F.segments tail 0) (set F.counts tail 0) tail)
-  lowered-gone k = rw (tailed-gone us (rw (last, ← count-is F t tail) k) ∙ ap (λ (n : ℕ). take n us) last) (tail-lost F t h)
+  lowered-gone k =
+      let r = t.room in
+      let e : length us ≡ tail + 1 = omega (arith, cells-used F t) in
+      let q : tailed us ≡ take tail us = tailed-gone us (rw (last, ← count-is F t tail) k) ∙ ap (λ (n : ℕ). take n us) last in
+      let l : length (take tail us) ≡ tail = length-take-le tail us (omega arith) in
+      rw q
+      (became (take tail us) _ (omega arith) (sym l)
+      (ap (λ (l : List ℕ). set l tail 0) (markers-row F t) ∙ row-less (λ c. c.marker) us tail e (omega arith))
+      (ap (λ (l : List ℕ). set l tail 0) (segments-row F t) ∙ row-less (λ c. c.segment) us tail e (omega arith))
+      (ap (λ (l : List ℕ). set l tail 0) (counts-row F t) ∙ row-less (λ c. c.count) us tail e (omega arith)))
 
   -- which stays
   pub lowered-less : 1 < get_or F.counts tail 0 → Became (tailed us) (made F.markers F.segments (set F.counts tail (get_or F.counts tail 0 - 1)) F.used)

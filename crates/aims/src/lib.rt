@@ -1,11 +1,12 @@
 // What a request comes to, decided before anything is written.
+#![tactic(auto)]
 pub mod aiming;
 
 use rules::Verdict;
 
 // What a request comes to: refused, or accepted, and then whether a key is put in or taken out, which, the key before it, its segment and its
 // place there, the keys held there, the level of the window to sweep (0 for none), and the moves.
-#[derive(Drop)]
+#[derive(Clone, Copy)]
 pub struct Aim {
     pub verdict: Verdict,
     pub grows: bool,

@@ -1,28 +1,29 @@
 // The answers of the public calls of a list, and what each call promises. No code.
+#![tactic(auto)]
 use forecast::Forecast;
 use rules::Refusal;
 
 // Each answer is a refusal, or one of the kinds of acceptance of its call.
-#[derive(Drop)]
+#[derive(Clone, Copy)]
 pub enum MakeAnswer {
     Refused(Refusal),
     Made,
 }
 
-#[derive(Drop)]
+#[derive(Clone, Copy)]
 pub struct MakeReply {
     pub forecast: Forecast,
     pub answer: MakeAnswer,
 }
 
-#[derive(Drop)]
+#[derive(Clone, Copy)]
 pub enum CheckAnswer {
     Refused(Refusal),
     Passed,
 }
 
 // Present, with the segment and the card.
-#[derive(Drop)]
+#[derive(Clone, Copy)]
 pub enum LookupAnswer {
     Refused(Refusal),
     Present(usize, u32),
@@ -30,7 +31,7 @@ pub enum LookupAnswer {
 }
 
 // With the number of keys written, each with its card.
-#[derive(Drop)]
+#[derive(Clone, Copy)]
 pub enum ScanAnswer {
     Refused(Refusal),
     Ended(usize),
@@ -38,26 +39,26 @@ pub enum ScanAnswer {
 }
 
 // With the moves.
-#[derive(Drop)]
+#[derive(Clone, Copy)]
 pub enum InsertAnswer {
     Refused(Refusal),
     Inserted(u64),
 }
 
-#[derive(Drop)]
+#[derive(Clone, Copy)]
 pub struct InsertReply {
     pub forecast: Forecast,
     pub answer: InsertAnswer,
 }
 
-#[derive(Drop)]
+#[derive(Clone, Copy)]
 pub enum DeleteAnswer {
     Refused(Refusal),
     Deleted(u64),
     DeletedSparse(u64),
 }
 
-#[derive(Drop)]
+#[derive(Clone, Copy)]
 pub struct DeleteReply {
     pub forecast: Forecast,
     pub answer: DeleteAnswer,

@@ -1,4 +1,5 @@
 // A single request on anything that is lent: a run of its one record.
+#![tactic(auto)]
 ghost use Rattle.rules.specs.Lent.{lend};
 ghost use Rattle.records.specs.Asked.{asked};
 ghost use Rattle.asking.specs.Requested.{TellsSparse, Requested};
@@ -7,7 +8,7 @@ use forecast::Forecast;
 use rules::Verdict;
 
 // What a request comes to, before it is told as an insert's or a delete's answer.
-#[derive(Drop)]
+#[derive(Clone, Copy)]
 pub struct Reply {
     pub forecast: Forecast,
     pub verdict: Verdict,

@@ -1,4 +1,5 @@
 // The check of what is lent: refusals 15, 1, 12, 2, 13, 3, 4 and 14, in this order.
+#![tactic(auto)]
 ghost use Rattle.std.specs.Prelude.{◌≡◌, List, ℕ, ◌/◌, length};
 ghost use Rattle.rules.specs.Lent.{lend};
 ghost use Rattle.rules.specs.Checks.{check_list, then_table};
@@ -9,7 +10,7 @@ use rules::{Refusal, Verdict};
 use shares::Shape;
 
 // What a check finds; where it accepts, the list's shape and the number of its keys.
-#[derive(Drop)]
+#[derive(Clone, Copy)]
 pub struct Listing {
     pub verdict: Verdict,
     pub shape: Shape,

@@ -1,4 +1,5 @@
 // The forecast: what the latest inserts noted, newest first.
+#![tactic(auto)]
 ghost use Rattle.std.specs.Prelude.{◌≡◌, [], ◌+◌, ◌≤◌, ◌<◌, length};
 ghost use Rattle.slots.specs.Segments.{Segments};
 ghost use Rattle.slots.specs.Keys.{Listed, segment_of};
@@ -10,7 +11,7 @@ ghost use Rattle.forecast.specs.Tidy.{Tidy, Became, Marker, Live, Outside, Elsew
 
 // Room for 12 cells, with the number used: a row of markers, one of segments and one of counts.
 #[repr(C)]
-#[derive(Drop)]
+#[derive(Clone, Copy)]
 pub struct Forecast {
     pub markers: [u64; 12],
     pub segments: [u8; 12],
@@ -19,7 +20,7 @@ pub struct Forecast {
 }
 
 // What a reading of the cells finds: all are sound, or the first cell that is not, and why.
-#[derive(Drop)]
+#[derive(Clone, Copy)]
 pub enum Fault {
     Sound,
     TooMany,

@@ -1,10 +1,11 @@
 // Four slots or four cards at a time: all four are read before any is written.
+#![tactic(auto)]
 ghost use Rattle.std.specs.Prelude.{◌≡◌, ◌+◌, ◌≤◌, length, take, drop};
 ghost use Rattle.std.proofs.Math.Seq.{paste};
 ghost use Rattle.fours.specs.Fours.{four_of, four_cards_of};
 
 // Four slots, as they are read before any is written.
-#[derive(Drop)]
+#[derive(Clone, Copy)]
 pub struct Four {
     pub w: u64,
     pub x: u64,
@@ -13,7 +14,7 @@ pub struct Four {
 }
 
 // Four cards, read in the same way.
-#[derive(Drop)]
+#[derive(Clone, Copy)]
 pub struct FourCards {
     pub w: u32,
     pub x: u32,

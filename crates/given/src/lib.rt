@@ -1,7 +1,8 @@
 // What each call for C programs gives, as definitions, with when each number is given and what a refusal leaves. No code.
+#![tactic(auto)]
 
 // A number, and the values that come with it.
-#[derive(Drop)]
+#[derive(Clone, Copy)]
 pub struct Told {
     pub number: u64,
     pub first: u64,

@@ -1,4 +1,5 @@
 // The marks of a window, found in the list as it stands before a request: the places that the keys that weigh will have, and their weights.
+#![tactic(auto)]
 ghost use Rattle.std.specs.Prelude.{◌≡◌, ℕ, ◌+◌, ◌*◌, ◌<◌, ◌≤◌, [], map, length, take, slice_index, slice_index_or};
 ghost use mathlib.Core.List.{Memᴰ as Mem};
 ghost use Rattle.lists.specs.Lists.{insert_at};
@@ -17,7 +18,7 @@ use places::finding::position;
 use stretches::passing::mark_from;
 
 // A window of segments, and the request in it: the first of them and how many, the key, and whether it is put in or taken out.
-#[derive(Drop)]
+#[derive(Clone, Copy)]
 pub struct Window {
     pub first: usize,
     pub n: usize,

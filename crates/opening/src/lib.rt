@@ -1,4 +1,5 @@
 // Records worked on anything that is lent: the check once, then the records in order.
+#![tactic(auto)]
 ghost use Rattle.rules.specs.Lent.{lend};
 ghost use Rattle.opening.specs.Opens.{Opens};
 

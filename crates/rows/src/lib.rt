@@ -1,4 +1,6 @@
 // One row of a forecast's 12: searched, two places exchanged, one put first. The same of 64 bits and of bytes.
+#![tactic(auto)]
+
 ghost use Rattle.std.specs.Prelude.{◌≡◌, ◌∷◌, ◌≤◌, ◌<◌, eqb, length, take};
 ghost use Rattle.lists.specs.Search.{place_by};
 ghost use Rattle.rows.specs.Ahead.{ahead_row};

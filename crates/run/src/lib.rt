@@ -1,4 +1,5 @@
 // Runs of request records: the run with its allowance, and the totals.
+#![tactic(auto)]
 pub mod running;
 pub mod totals;
 
@@ -6,7 +7,7 @@ use forecast::Forecast;
 use rules::{Tally, Totals, Verdict};
 
 // What a run comes to: the forecast that it hands back, what it has counted, and what refused or stopped it, if anything did.
-#[derive(Drop)]
+#[derive(Clone, Copy)]
 pub struct Reply {
     pub forecast: Forecast,
     pub tally: Tally,
@@ -14,7 +15,7 @@ pub struct Reply {
 }
 
 // That, with the totals then.
-#[derive(Drop)]
+#[derive(Clone, Copy)]
 pub struct Run {
     pub reply: Reply,
     pub totals: Totals,

@@ -1,11 +1,12 @@
 // The keys of a list, from a place on, and their cards, written into lent outputs by the counts of its segments.
+#![tactic(auto)]
 ghost use Rattle.std.specs.Prelude.{◌≡◌, [], map, ℕ, ◌+◌, ◌*◌, ◌/◌, ◌≤◌, ◌<◌, length, take, get_or};
 ghost use Rattle.slots.specs.Segments.{Segments};
 ghost use Rattle.slots.specs.Shown.{Shows};
 ghost use Rattle.scans.specs.Scans.{Wrote, keys_from, shorter, cards_over};
 
 // Keys written, and whether there were more.
-#[derive(Drop)]
+#[derive(Clone, Copy)]
 pub struct Written {
     pub keys: usize,
     pub more: bool,

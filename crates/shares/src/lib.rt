@@ -1,4 +1,5 @@
 // High and low shares, in keys per segment, as constant tables of both profiles' rows, and all that a list keeps to by its shape.
+#![tactic(auto)]
 ghost use Rattle.std.specs.Prelude.{◌≡◌, ◌≤◌, ◌*◌, ◌^◌, get_or};
 ghost use Rattle.rules.specs.Profiles.{is_profile, profile_of};
 ghost use Rattle.rules.specs.Shares.{shares};
@@ -78,7 +79,7 @@ pub fn profile_of(n: u64) -> Profile
 
 // All that a list keeps to, fetched once for a call: its number of cells, the most keys that it holds, the number of keys under which it is
 // sparse, a segment's high and low, the rows of shares by level, and the profile that all of them are of.
-#[derive(Drop)]
+#[derive(Clone, Copy)]
 pub struct Shape {
     pub height: usize,
     pub cells: usize,

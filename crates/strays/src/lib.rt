@@ -1,4 +1,5 @@
 // Refusal 13: a card in a gap.
+#![tactic(auto)]
 ghost use Rattle.std.specs.Prelude.{◌≡◌, List, ℕ, ◌+◌, ◌*◌, ◌≤◌, ◌<◌, length, get_or};
 ghost use Rattle.slots.specs.Segments.{Segments};
 ghost use Rattle.slots.specs.Shown.{Shows, CountsOf};
@@ -6,7 +7,7 @@ ghost use Rattle.rules.specs.Cards.{gap_card};
 ghost use Rattle.strays.specs.Blanks.{Gathers};
 
 // Cards together, in four lanes: all are 0 where each lane is.
-#[derive(Drop)]
+#[derive(Clone, Copy)]
 pub struct Lanes {
     pub w: u32,
     pub x: u32,

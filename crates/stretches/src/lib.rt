@@ -1,11 +1,12 @@
 // A part of a swept window by its marks: the marks passed, and of each stretch between two of them the number of keys nearest by formula 6.
+#![tactic(auto)]
 pub mod crossing;
 pub mod passing;
 pub mod trying;
 
 // A part of a packed window: the place of its first key and how many it has, its marks from `from` up to `to`, the front's weight if it
 // begins with the front, and what it weighs, the front included.
-#[derive(Drop)]
+#[derive(Clone, Copy)]
 pub struct Part {
     pub place: usize,
     pub keys: usize,
@@ -16,14 +17,14 @@ pub struct Part {
 }
 
 // The next mark, and what the left half weighs up to it.
-#[derive(Drop)]
+#[derive(Clone, Copy)]
 pub struct Passed {
     pub next: usize,
     pub left: usize,
 }
 
 // Numbers of keys for the left half, between two marks: the weights on both sides stay.
-#[derive(Drop)]
+#[derive(Clone, Copy)]
 pub struct Stretch {
     pub left: usize,
     pub right: usize,
@@ -32,7 +33,7 @@ pub struct Stretch {
 }
 
 // A number of keys for the left half, and its distance by formula 6 as a fraction.
-#[derive(Drop)]
+#[derive(Clone, Copy)]
 pub struct Tried {
     pub keys: usize,
     pub num: usize,

@@ -1,4 +1,5 @@
 // A run told in numbers, and over totals that are lent, as C programs take it.
+#![tactic(auto)]
 ghost use Rattle.rules.specs.Lent.{lend};
 ghost use Rattle.told.specs.Tells.{RunTells};
 
@@ -7,14 +8,14 @@ use rules::{Tally, Totals};
 
 // What a run comes to: the forecast that it hands back, what it has counted, and the number of what refused or stopped it, or 0.
 #[repr(C)]
-#[derive(Drop)]
+#[derive(Clone, Copy)]
 pub struct Told {
     pub forecast: Forecast,
     pub tally: Tally,
     pub stop: u64,
 }
 
-#[derive(Drop)]
+#[derive(Clone, Copy)]
 pub struct ToldRun {
     pub told: Told,
     pub totals: Totals,

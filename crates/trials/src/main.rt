@@ -1,5 +1,6 @@
 // Works the commands of its standard input on one array, its cards, table and forecast, in one profile at a time, through the public calls, and
 // writes what each answers. A command is 25 bytes: what is asked, and three numbers, high byte first.
+#![tactic(auto)]
 mod calling;
 mod showing;
 
@@ -7,7 +8,7 @@ ghost use Rattle.std.specs.Prelude.{◌≤◌, ◌+◌, length};
 
 use forecast::Forecast;
 
-#[derive(Drop)]
+#[derive(Clone, Copy)]
 pub struct Command {
     pub ask: u8,
     pub x: u64,
@@ -16,7 +17,7 @@ pub struct Command {
 }
 
 // The profile's number, and how many slots, cards and entries of the table are lent.
-#[derive(Drop)]
+#[derive(Clone, Copy)]
 struct Lent {
     profile: u64,
     len: usize,
@@ -25,7 +26,7 @@ struct Lent {
 }
 
 // The forecast, and what is lent with it.
-#[derive(Drop)]
+#[derive(Clone, Copy)]
 struct Room {
     forecast: Forecast,
     lent: Lent,

@@ -1,0 +1,46 @@
+-- `aim_out` refuses by 5 or 7, or tells the key's place, with the window that a climb finds, if any, where its segment falls under its low share.
+use mathlib.Core.Logic.{⊎_elim}
+use native.Mathlib.Omega.{arith}
+use borrow.Author.Tests.{not-true, not-false}
+use Prim.Native.Nat.{◌<◌}
+use Rattle.aims.proofs.Standing.{climb-asks}
+use Rattle.aims.proofs.Places.{place_in, place-held}
+use Rattle.aims.proofs.AimedOut.{out-zero, out-absent, out-under, out-shifted, out-keeps, out-unswept, out-swept}
+use Rattle.aims.proofs.aiming.aim_out.Goals as goal
+
+pub returns-then-key-eq0 : goal.returns-then-key-eq0
+returns-then-key-eq0 c F s = rw c.refuse.ensures (out-zero s c.if-key-eq0.true)
+
+pub spot-spot-requires : goal.spot-spot-requires
+spot-spot-requires c = (c.requires.index, omega arith)
+
+pub returns-then-not-place : goal.returns-then-not-place
+returns-then-not-place c F s =
+    rw c.refuse-then-not-place.ensures (out-absent s c.if-key-eq0.false c.spot-spot.ensures (not-true _ c.if-not-place.true))
+
+-- the key's place is below the number of keys there
+under : (c : goal.Else-not-place) → c.spot-spot.result.place.at < c.spot-spot.result.place.held
+under c =
+    out-under c.requires.stands c.if-key-eq0.false c.spot-spot.ensures (not-false _ c.if-not-place.false)
+pub climb-found-requires : goal.climb-found-requires
+climb-found-requires c =
+    climb-asks c.requires (place_in c.requires.stands c.spot-spot.ensures.place) (omega (arith, place-held c.requires.stands c.spot-spot.ensures.place, under (goal.at.climb-found-requires c).Else-not-place)) (omega arith)
+
+pub returns-then-found-ne0 : goal.returns-then-found-ne0
+returns-then-found-ne0 c F s =
+    out-swept s c.if-key-eq0.false c.spot-spot.ensures (not-false _ c.if-not-place.false) (omega (arith, c.if-held-shape.true)) c.requires.index c.climb-found.ensures.window (omega (arith, c.if-found-ne0.true))
+
+pub overflow_sub-result : goal.overflow_sub-result
+overflow_sub-result c = omega (arith, under (goal.at.overflow_sub-result c).Else-not-place)
+
+pub overflow_sub-result-2 : goal.overflow_sub-result-2
+overflow_sub-result-2 c = omega (arith, under (goal.at.overflow_sub-result-2 c).Else-not-place)
+
+-- no window, for either reason
+pub returns : goal.returns
+returns c F s =
+    out-shifted s c.if-key-eq0.false c.spot-spot.ensures (not-false _ c.if-not-place.false)
+    (⊎_elim
+    (λ w. out-unswept s c.if-key-eq0.false c.spot-spot.ensures (not-false _ c.if-not-place.false) (omega (arith, w.0.taken)) c.requires.index w.1.ensures.1 w.3.left)
+    (λ w. out-keeps s c.if-key-eq0.false c.spot-spot.ensures (not-false _ c.if-not-place.false) w.left)
+    c.if-held-shape.branch)

@@ -1,0 +1,89 @@
+-- `look_over_both` finds the number of the check of list, cards and forecast.
+use mathlib.Core.Path.{◌≡◌, sym, ap, ◌∙◌}
+use mathlib.Core.List.{List, []}
+use Prim.Native.Nat.{ℕ, ◌+◌, ◌≤◌}
+use native.Mathlib.Omega.{arith}
+use borrow.Author.Tests.{not-true, not-false}
+use lib.ListN.{length}
+use Rattle.slots.specs.Segments.{segments_of}
+use Rattle.forecast.specs.declared.Forecast.{Forecast}
+use Rattle.forecast.specs.Faults.{fault_of, is_sound}
+use Rattle.rules.specs.Shares.{cells_of}
+use Rattle.rules.specs.Lent.{Lent, lend}
+use Rattle.rules.specs.Checks.{shares_of, check_cards, check_list}
+use Rattle.rules.specs.Refusals.{verdict_number}
+use Rattle.rules.specs.declared.Verdict.TheVariants.{Accepted}
+use Rattle.rules.specs.declared.Refusal.TheVariants.{WrongForecast}
+use Rattle.demands.proofs.Requests.Shown.{shows-passed, long-passed}
+use Rattle.demands.proofs.Requests.Checked.{forecast-stays, forecast-wrong, forecast-passes}
+use Rattle.checks.proofs.Numbers.{refused-some, looked-refused, counting-refused}
+use Rattle.checks.proofs.Tabling.{renumbered, cards-list}
+use Rattle.checks.specs.declared.Listing.{Listing}
+use Rattle.checks.specs.Listings.{ListLooked, Counting}
+use Rattle.checks.proofs.look_over_both.Goals as goal
+
+pub returns-in-Refused : goal.returns-in-Refused
+returns-in-Refused c =
+    let look = c.look_over-listing.ensures in
+    let told = c.enum_told-1.given.1 in record {
+      looked = λ table. renumbered _ (sym (forecast-stays _ _ _ _ (λ e. refused-some _ _ told ((look.0 table).number ∙ e)))) (look.0 table);
+      counts = look.1;
+    }
+
+-- the list and its cards pass
+module _ (c : goal.After-shape-1) where
+  abbrev profile : ℕ
+  profile = c.args.profile
+
+  abbrev list : List ℕ
+  list = c.args.list.now
+
+  abbrev lent : List ℕ → Lent
+  lent table = lend list c.args.cards.now table
+
+  abbrev listing : Listing
+  listing = c.look_over-listing.result
+
+  looked : (table : List ℕ) → ListLooked profile (lent table) listing
+  looked = c.look_over-listing.ensures.looked
+
+  counting : Counting list listing c.look_over-listing.new.counts
+  counting = c.look_over-listing.ensures.counts
+
+  accepted : listing.verdict ≡ Accepted
+  accepted = c.enum_told-in_default-1.given.1
+
+  passes : (table : List ℕ) → check_cards profile (lent table) ≡ 0
+  passes table = sym (looked table).number ∙ ap verdict_number accepted
+
+  list-passes : check_list profile list ≡ 0
+  list-passes = cards-list profile (lent []) (passes [])
+
+-- the fault that is found is the rules'
+module _ (c : goal.After-fault_of-fault) where
+  abbrev told : Forecast
+  told = c.args.forecast
+
+  fault-is : c.fault_of-fault.result ≡ fault_of (cells_of (shares_of (profile c.before) (list c.before))) (segments_of (list c.before)) told
+  fault-is =
+      let slots : List ℕ = list c.before in
+      let long : 64 ≤ length slots = omega (arith, long-passed (profile c.before) slots (list-passes c.before)) in
+      c.fault_of-fault.ensures (segments_of slots) (shows-passed (profile c.before) slots (list-passes c.before)) long
+      ∙ ap (λ (p : ℕ). fault_of p (segments_of slots) told) (((looked c.before []).shape (accepted c.before)).cells ∙ ap (λ (h : ℕ). 6 + h) ((looked c.before []).height (accepted c.before)))
+
+pub returns-then-not-is_sound : goal.returns-then-not-is_sound
+returns-then-not-is_sound c =
+    record {
+      looked = λ table. looked-refused (profile (goal.at.returns-then-not-is_sound c).After-shape-1) (list (goal.at.returns-then-not-is_sound c).After-shape-1) WrongForecast _ c.refuse.ensures _
+          (forecast-wrong _ (profile (goal.at.returns-then-not-is_sound c).After-shape-1) (list (goal.at.returns-then-not-is_sound c).After-shape-1) (told (goal.at.returns-then-not-is_sound c).After-fault_of-fault) (passes (goal.at.returns-then-not-is_sound c).After-shape-1 table) (sym (ap is_sound (fault-is (goal.at.returns-then-not-is_sound c).After-fault_of-fault)) ∙ sym c.is_sound.ensures ∙ not-true _ c.if-not-is_sound.true));
+      counts = counting-refused (profile (goal.at.returns-then-not-is_sound c).After-shape-1) (list (goal.at.returns-then-not-is_sound c).After-shape-1) WrongForecast _ c.refuse.ensures _ (counting (goal.at.returns-then-not-is_sound c).After-shape-1).long;
+    }
+
+pub returns : goal.returns
+returns c =
+    record {
+      looked = λ table. renumbered _
+          (passes (goal.at.returns c).After-shape-1 table ∙ sym (forecast-passes _ (profile (goal.at.returns c).After-shape-1) (list (goal.at.returns c).After-shape-1) (told (goal.at.returns c).After-fault_of-fault) (passes (goal.at.returns c).After-shape-1 table) (sym (ap is_sound (fault-is (goal.at.returns c).After-fault_of-fault)) ∙ sym c.is_sound.ensures ∙ not-false _ c.if-not-is_sound.false)))
+          (looked (goal.at.returns c).After-shape-1 table);
+      counts = counting (goal.at.returns c).After-shape-1;
+    }

@@ -1,0 +1,12 @@
+-- open_gap meets its contract: a movement to the right and one store, of slots and of cards.
+use native.Mathlib.Omega.{arith}
+use Rattle.gaps.proofs.Gaps.{open_step}
+use Rattle.gaps.proofs.open_gap.Goals as goal
+
+pub returns : goal.returns
+returns c =
+    let promise = c.move_right.ensures in
+    record {
+      slots = rw promise.0 (open_step _ _ _ _ (omega arith) (omega arith));
+      cards = rw promise.1 (open_step _ _ _ _ (omega arith) (omega arith));
+    }

@@ -1,0 +1,14 @@
+-- `planning::splitting::scan` meets its contract. The loop's invariant: the marks up to i are passed, and the best below i is found.
+use mathlib.Core.List.{List}
+use Prim.Native.Nat.{ℕ, ◌-◌, ◌≤◌}
+use Rattle.stretches.specs.Parts.{PartOf}
+use Rattle.stretches.specs.Tries.{Modest}
+use Rattle.planning.proofs.Scanning.{Scanned}
+use Rattle.planning.proofs.splitting.scan.Given as goal
+
+abbrev pub invariant-loop-part : goal.invariant-loop-part
+invariant-loop-part l =
+    ((l.first ≤ l.i) × (l.i ≤ l.last)) × Modest l.found × ((ws : List ℕ) → PartOf ws l.at l.weights l.part → Scanned l.c l.first ws l.at l.part l.i l.passed l.found)
+
+abbrev pub decreases-loop-part : goal.decreases-loop-part
+decreases-loop-part l = l.last - l.i

@@ -1,0 +1,32 @@
+-- `bytes_of` writes a request's record: its bytes, read high byte first, are the key and the card.
+use mathlib.Core.Path.{◌≡◌, sym, ap, ◌∙◌}
+use mathlib.Core.Logic.{inl, inr}
+use native.Mathlib.Omega.{arith}
+use Rattle.records.proofs.RecordBytes.{kind_of, one-record}
+use Rattle.records.proofs.bytes_of.Goals as goal
+
+-- where the two arms meet
+kind-is : (j : goal.Joined-grows) → j.if-grows.kind ≡ kind_of j.args.grows
+kind-is j =
+    elim j.if-grows.branch [
+      | inl t ↦ t.1 ∙ sym (ap kind_of t.0.taken)
+      | inr t ↦ t.1 ∙ sym (ap kind_of t.0.left)
+    ]
+pub returns : goal.returns
+returns c =
+    rw (
+      kind-is (goal.at.returns c).Joined-grows,
+      c.byte.ensures,
+      c.byte-2.ensures,
+      c.byte-3.ensures,
+      c.byte-4.ensures,
+      c.byte-5.ensures,
+      c.byte-6.ensures,
+      c.byte-7.ensures,
+      c.byte-8.ensures,
+      c.byte-9.ensures,
+      c.byte-10.ensures,
+      c.byte-11.ensures,
+      c.byte-12.ensures,
+    )
+    (one-record c.args.grows c.args.key c.args.card (omega arith) (omega arith))

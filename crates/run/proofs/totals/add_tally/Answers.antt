@@ -1,0 +1,7 @@
+-- `add_tally` adds each number, cut to 32 bits, with wrap: modulo 2^32.
+use Rattle.std.proofs.Common.{◌∙◌}
+use Rattle.run.proofs.Readings.{same-totals, cut}
+use Rattle.run.proofs.totals.add_tally.Goals as goal
+
+pub returns : goal.returns
+returns c = same-totals (c.wrapping_add_u32.ensures ∙ cut _ _) (c.wrapping_add_u32-2.ensures ∙ cut _ _) (c.wrapping_add_u32-3.ensures ∙ cut _ _) (c.wrapping_add_u32-4.ensures ∙ cut _ _)

@@ -1,0 +1,59 @@
+-- pack meets its contract. Invariant: the keys of the first s segments stand in front, all slots after them are as they were, and each has its card.
+use mathlib.Core.Path.{◌≡◌, refl, ap, ◌∙◌}
+use Prim.Native.Nat.{ℕ, ◌*◌, ◌-◌, ◌≤◌, ◌<◌}
+use native.Mathlib.Numerals.{add-one}
+use native.Mathlib.Omega.{arith}
+use mathlib.Core.List.{List, ◌++◌}
+use lib.ListN.{length, get_or, take, drop}
+use lib.Seq.{take-length}
+use Rattle.lists.specs.Lists.{total}
+use Rattle.lists.proofs.Joined.{total-suc}
+use Rattle.moves.specs.Moves.{gather}
+use Rattle.gaps.proofs.Natural.{moved-kept}
+use Rattle.spreads.proofs.Packing.{pack-step, gather-length-suc}
+use Rattle.spreads.proofs.pack.Goals as goal
+
+pub loop-s-init : goal.loop-s-init
+unfolding gather
+loop-s-init c = (omega arith, omega arith, refl, refl, refl, refl, refl, λ f h. h)
+
+pub move_left-requires : goal.move_left-requires
+move_left-requires c = omega record {
+      to_le_from = arith;
+      cards_len = c.requires.by_index c.loop-s.s;
+    }
+
+pub overflow_add-at : goal.overflow_add-at
+overflow_add-at c = omega (arith, c.requires.by_index c.loop-s.s)
+
+pub loop-s-preserved : goal.loop-s-preserved
+loop-s-preserved c =
+    let cs = c.args.counts.now in
+    let l = c.args.window.now in
+    let loop = c.loop-s in
+    let inv = loop.invariant in
+    let moves = c.move_left.ensures in
+    let small : get_or cs loop.s 0 ≤ 64 = c.requires.by_index loop.s in
+    let h : loop.s < length cs = omega arith in
+    rw (add-one loop.s) (
+      omega arith,
+      omega arith,
+      omega (arith, total-suc cs loop.s h),
+      gather-length-suc cs l loop.s loop.at h small c.requires.window_len inv.3,
+      omega arith,
+      omega arith,
+      pack-step cs l loop.window _ loop.s loop.at h inv.1 inv.3 inv.6 moves.0,
+      λ f k. moved-kept f loop.window (inv.7 f k) (64 * loop.s) loop.at (get_or cs loop.s 0) moves.0 moves.1,
+    )
+
+pub returns : goal.returns
+returns c =
+    let cs = c.args.counts.now in
+    let l = c.args.window.now in
+    let inv = c.loop-s.invariant in
+    let e : c.loop-s.s ≡ length cs = omega arith in
+    let all : take c.loop-s.s cs ≡ cs = ap (λ (n : ℕ). take n cs) e ∙ take-length cs in
+    record {
+      keys = record { many = inv.2 ∙ ap total all; slots = inv.6 ∙ ap (λ (t : List ℕ). gather t l ++ drop c.loop-s.at l) all };
+      cards = inv.7;
+    }

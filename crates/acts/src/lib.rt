@@ -1,5 +1,6 @@
 // What a request comes to, acted on, for both kinds: noted in the forecast, and the key shifted in or out, or its window swept.
 #![tactic(auto)]
+
 ghost use Rattle.std.specs.Prelude.{◌≡◌, true, List, map, ℕ, ◌≤◌, length};
 ghost use Rattle.forecast.specs.Cells.{forecast_of};
 ghost use Rattle.sweeps.specs.Acts.{outcome_of, Acting, Noted, Left};

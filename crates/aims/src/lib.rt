@@ -1,5 +1,6 @@
 // What a request comes to, decided before anything is written.
 #![tactic(auto)]
+
 pub mod aiming;
 
 use rules::Verdict;

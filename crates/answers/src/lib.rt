@@ -1,5 +1,6 @@
 // The answers of the public calls of a list, and what each call promises. No code.
 #![tactic(auto)]
+
 use forecast::Forecast;
 use rules::Refusal;
 

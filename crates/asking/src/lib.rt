@@ -1,5 +1,6 @@
 // A single request on anything that is lent: a run of its one record.
 #![tactic(auto)]
+
 ghost use Rattle.rules.specs.Lent.{lend};
 ghost use Rattle.records.specs.Asked.{asked};
 ghost use Rattle.asking.specs.Requested.{TellsSparse, Requested};

@@ -1,5 +1,6 @@
 // The check of what is lent: refusals 15, 1, 12, 2, 13, 3, 4 and 14, in this order.
 #![tactic(auto)]
+
 ghost use Rattle.std.specs.Prelude.{◌≡◌, List, ℕ, ◌/◌, length};
 ghost use Rattle.rules.specs.Lent.{lend};
 ghost use Rattle.rules.specs.Checks.{check_list, then_table};

@@ -1,5 +1,6 @@
 // The climb from a segment to the smallest window round it that is within limits.
 #![tactic(auto)]
+
 pub mod climbing;
 
 // The level of the window to sweep, 0 for none, and the keys in it.

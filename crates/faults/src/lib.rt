@@ -1,5 +1,6 @@
 // What is wrong with a forecast, if anything: the first cell that has a fault, and which.
 #![tactic(auto)]
+
 ghost use Rattle.std.specs.Prelude.{◌≡◌, ◌≤◌, ◌<◌, length};
 ghost use Rattle.slots.specs.Segments.{Segments};
 ghost use Rattle.slots.specs.Shown.{Shows};

@@ -1,5 +1,6 @@
 // Four slots or four cards at a time: all four are read before any is written.
 #![tactic(auto)]
+
 ghost use Rattle.std.specs.Prelude.{◌≡◌, ◌+◌, ◌≤◌, length, take, drop};
 ghost use Rattle.std.proofs.Math.Seq.{paste};
 ghost use Rattle.fours.specs.Fours.{four_of, four_cards_of};

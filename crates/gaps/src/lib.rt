@@ -1,5 +1,6 @@
 // A gap opened or closed among keys, and slots cleared, each with the cards beside them.
 #![tactic(auto)]
+
 ghost use Rattle.std.specs.Prelude.{◌≡◌, ◌≤◌, ◌<◌, length};
 ghost use Rattle.gaps.specs.Gaps.{cleared, opened, closed};
 

@@ -1,6 +1,7 @@
 // Makes a list of height 2 in profile 1, works at most 65,536 bytes of request records from standard input on it, and writes the keys now live, the
 // run's moves, the sweeps made and the stop number; then each segment's number and key count, a line each. Further input stays unread.
 #![tactic(auto)]
+
 use libc::STDOUT_FILENO;
 use rules::Totals;
 

@@ -1,5 +1,6 @@
 // Lookup and scan on a list, cards and a table that have passed their check, whatever the profile, as code.
 #![tactic(auto)]
+
 ghost use Rattle.std.specs.Prelude.{◌≡◌, List, ℕ, ◌+◌, ◌*◌, ◌≤◌, length};
 ghost use Rattle.slots.specs.Segments.{Segments};
 ghost use Rattle.slots.specs.Shown.{seat};

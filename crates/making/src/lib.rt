@@ -1,5 +1,6 @@
 // Making a list empty.
 #![tactic(auto)]
+
 ghost use Rattle.std.specs.Prelude.{◌≡◌, []};
 ghost use Rattle.forecast.specs.Cells.{forecast_of};
 ghost use Rattle.rules.specs.Lent.{lend};

@@ -1,5 +1,6 @@
 // The marks of a window, found in the list as it stands before a request: the places that the keys that weigh will have, and their weights.
 #![tactic(auto)]
+
 ghost use Rattle.std.specs.Prelude.{◌≡◌, ℕ, ◌+◌, ◌*◌, ◌<◌, ◌≤◌, [], map, length, take, slice_index, slice_index_or};
 ghost use mathlib.Core.List.{Memᴰ as Mem};
 ghost use Rattle.lists.specs.Lists.{insert_at};

@@ -1,5 +1,6 @@
 // Movement of slots and of the cards beside them, by positions and counts alone.
 #![tactic(auto)]
+
 ghost use Rattle.std.specs.Prelude.{◌≡◌, ◌+◌, ◌≤◌, length};
 ghost use Rattle.moves.specs.Moves.{moved};
 

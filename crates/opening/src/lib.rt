@@ -1,5 +1,6 @@
 // Records worked on anything that is lent: the check once, then the records in order.
 #![tactic(auto)]
+
 ghost use Rattle.rules.specs.Lent.{lend};
 ghost use Rattle.opening.specs.Opens.{Opens};
 

@@ -1,5 +1,6 @@
 // What insert, delete and a run have come to, written into the words that a C program lends.
 #![tactic(auto)]
+
 ghost use Rattle.std.specs.Prelude.{◌≡◌, ◌≤◌, length};
 ghost use Rattle.answers.specs.Answers.{insert_paper, delete_paper};
 ghost use Rattle.telling.specs.Told.{answer_words};

@@ -1,5 +1,6 @@
 // Reading any slots: the first slot that breaks the order, and the number of keys.
 #![tactic(auto)]
+
 ghost use Rattle.std.specs.Prelude.{◌≡◌, ◌+◌, ◌*◌, ◌/◌, ◌≤◌, ◌<◌, length};
 ghost use Rattle.slots.specs.Orders.{is_kept};
 ghost use Rattle.slots.specs.Shown.{Reads, Tallied};

@@ -1,5 +1,6 @@
 // Request records in the house form, 11 bytes, with a card 15: read and written.
 #![tactic(auto)]
+
 ghost use Rattle.std.specs.Prelude.{◌≡◌, [], ◌∷◌, ◌+◌, ◌*◌, ◌/◌, ◌%◌, ◌^◌, ◌≤◌, ◌<◌, length, take, drop};
 ghost use Rattle.rules.specs.Runs.{asking, record_of, records_of, key_of, card_of};
 ghost use Rattle.records.specs.Asked.{asked, size_for, card_for, carrying};

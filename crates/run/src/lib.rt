@@ -1,5 +1,6 @@
 // Runs of request records: the run with its allowance, and the totals.
 #![tactic(auto)]
+
 pub mod running;
 pub mod totals;
 

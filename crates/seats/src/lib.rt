@@ -1,5 +1,6 @@
 // A search by the bounds of segments, one less than the first key from each segment on: a key's segment, in six steps.
 #![tactic(auto)]
+
 ghost use Rattle.std.specs.Prelude.{◌≡◌, ◌+◌, ◌≤◌, ◌<◌, length};
 ghost use Rattle.slots.specs.Segments.{Segments};
 ghost use Rattle.slots.specs.Keys.{Listed};

@@ -1,5 +1,6 @@
 // High and low shares, in keys per segment, as constant tables of both profiles' rows, and all that a list keeps to by its shape.
 #![tactic(auto)]
+
 ghost use Rattle.std.specs.Prelude.{◌≡◌, ◌≤◌, ◌*◌, ◌^◌, get_or};
 ghost use Rattle.rules.specs.Profiles.{is_profile, profile_of};
 ghost use Rattle.rules.specs.Shares.{shares};

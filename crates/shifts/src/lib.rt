@@ -1,5 +1,6 @@
 // A key put in or taken out where a search for it ended: its slots and cards, with the table and the bounds, as code.
 #![tactic(auto)]
+
 ghost use Rattle.std.specs.Prelude.{◌≡◌, not, List, [], map, ℕ, ◌+◌, ◌*◌, ◌/◌, ◌≤◌, ◌<◌, T, length, get_or, set};
 ghost use Rattle.slots.specs.Segments.{Segments, keys};
 ghost use Rattle.slots.specs.Keys.{member, put, cut};

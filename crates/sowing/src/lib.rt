@@ -1,5 +1,6 @@
 // A window swept by a plan that is made: its keys packed, a key put in or taken out, and all dealt out, in place, each with its card.
 #![tactic(auto)]
+
 ghost use Rattle.std.specs.Prelude.{◌≡◌, true, map, ℕ, length};
 ghost use Rattle.lists.specs.Lists.{deal};
 ghost use Rattle.slots.specs.Segments.{keys, segments_of, render};

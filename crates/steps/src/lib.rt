@@ -1,5 +1,6 @@
 // Requests worked on a list that has been checked: what each comes to is decided first, then its key is shifted in or out or its window swept.
 #![tactic(auto)]
+
 pub mod working;
 
 use forecast::Forecast;

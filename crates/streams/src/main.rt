@@ -1,6 +1,7 @@
 // Works the request streams of data/ through the run, in either profile and in none, on lists of 256 slots made empty, and writes for each its
 // name, the reply, the four totals, what was added to them, the number that a check gives of what it left, the table and the cards then.
 #![tactic(auto)]
+
 use forecast::Forecast;
 use libc::STDOUT_FILENO;
 use rules::{Tally, Totals};

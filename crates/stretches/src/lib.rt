@@ -1,5 +1,6 @@
 // A part of a swept window by its marks: the marks passed, and of each stretch between two of them the number of keys nearest by formula 6.
 #![tactic(auto)]
+
 pub mod crossing;
 pub mod passing;
 pub mod trying;

@@ -1,5 +1,6 @@
 // A sweep: its plan, made before anything is written, and the sweep by it.
 #![tactic(auto)]
+
 ghost use Rattle.std.specs.Prelude.{◌≡◌, true, List, map, ℕ, ◌+◌, ◌^◌, ◌≤◌, eqb, length, get_or};
 ghost use Rattle.lists.specs.Choice.{if◌then◌else◌};
 ghost use Rattle.lists.specs.Lists.{splice};

@@ -1,5 +1,6 @@
 // The records of a run, one by one: whether what each comes to stops the run, and what is counted of it.
 #![tactic(auto)]
+
 ghost use Rattle.std.specs.Prelude.{◌≡◌, true, false, ◌+◌, ◌≤◌, ◌<◌, ◌^◌};
 ghost use Rattle.rules.specs.Runs.{nothing};
 ghost use Rattle.tallies.specs.Counted.{stops_run, is_stop, is_accepted, comes_to, next_of, keys_of};

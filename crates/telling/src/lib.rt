@@ -1,5 +1,6 @@
 // What each answer tells in numbers, for C calls and programs: the paper's number, and its values (yes is 1, no is 0).
 #![tactic(auto)]
+
 ghost use Rattle.std.specs.Prelude.{◌≡◌};
 ghost use Rattle.answers.specs.Answers.{make_number, check_number, lookup_paper, scan_paper, insert_paper, delete_paper};
 ghost use Rattle.telling.specs.Told.{found_words, scanned_words, answer_words};

@@ -1,5 +1,6 @@
 // A run told in numbers, and over totals that are lent, as C programs take it.
 #![tactic(auto)]
+
 ghost use Rattle.rules.specs.Lent.{lend};
 ghost use Rattle.told.specs.Tells.{RunTells};
 

@@ -1,6 +1,7 @@
 // Works the commands of its standard input on one array, its cards, table and forecast, in one profile at a time, through the public calls, and
 // writes what each answers. A command is 25 bytes: what is asked, and three numbers, high byte first.
 #![tactic(auto)]
+
 mod calling;
 mod showing;
 

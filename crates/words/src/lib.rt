@@ -1,5 +1,6 @@
 // What travels as numbers and words: refusals, a forecast, totals.
 #![tactic(auto)]
+
 ghost use Rattle.std.specs.Prelude.{◌≡◌, length};
 ghost use Rattle.words.specs.Words.{capped, forecast_in, forecast_words, saturated};
 

@@ -6,6 +6,7 @@ use Rattle.acts.proofs.note.Goals as goal
 
 roomy : (s : goal.Start) → Roomy s.args.forecast
 roomy s = record { markers = search rules; segments = search rules; counts = search rules }
+
 pub note_insert-requires : goal.note_insert-requires
 note_insert-requires c =
     let asks = note-asks c.requires.3 (roomy (goal.at.note_insert-requires c).Start) in

@@ -17,6 +17,7 @@ slice_bounds-work_lent-end c = sym (length-take-le _ _ (search rules))
 
 roomy : (s : goal.Start) → Roomy s.args.forecast
 roomy s = record { markers = search rules; segments = search rules; counts = search rules }
+
 pub returns : goal.returns
 returns c =
     let worked = c.work_lent-worked.result in

@@ -34,6 +34,7 @@ returns-then-not-is_profile c =
 -- the profile is known
 known : (c : goal.Else-not-is_profile) → is_profile c.args.profile ≡ true
 known c = sym c.is_profile.ensures ∙ not-false _ c.if-not-is_profile.false
+
 pub returns-then-height-eq0 : goal.returns-then-height-eq0
 returns-then-height-eq0 c =
     record {
@@ -92,6 +93,7 @@ returns-then-not-is_kept c =
 -- the order is kept
 kept : (c : goal.Else-not-is_kept) → is_kept (order_of (list c.before)) ≡ true
 kept c = order c.before ∙ not-false _ c.if-not-is_kept.false
+
 pub stray-requires : goal.stray-requires
 stray-requires c =
     gaps_asked (list (goal.at.stray-requires c).After-is_kept) c.args.counts.now (kept (goal.at.stray-requires c).Else-not-is_kept) (high (goal.at.stray-requires c).After-is_kept) (counts (goal.at.stray-requires c).After-is_kept) (tallied (goal.at.stray-requires c).After-is_kept) c.args.cards.now (long (goal.at.stray-requires c).After-is_kept) c.requires
@@ -100,6 +102,7 @@ stray-requires c =
 gaps : (c : goal.After-stray) → c.stray.result ≡ gap_card (list c.before.before) c.args.cards.now
 gaps c =
     gaps-told (list c.before.before) c.args.counts.now (kept c.before) (high c.before.before) (counts c.before.before) (tallied c.before.before) c.args.cards.now _ c.stray.ensures
+
 pub returns-then-stray : goal.returns-then-stray
 returns-then-stray c =
     record {

@@ -16,6 +16,7 @@ use Rattle.faults.proofs.fault_of.Goals as goal
 -- the rows have room for 12
 roomy : (c : goal.Start) → Roomy c.args.t1
 roomy c = record { markers = search rules; segments = search rules; counts = search rules }
+
 pub returns-then-list-lt64 : goal.returns-then-list-lt64
 returns-then-list-lt64 c ss sh l = absurd (omega arith)
 

@@ -19,6 +19,7 @@ seat-marker ss k (inl e) =
       | inr t ↦ seat-free k ss t ∙ elim (pred-mem k ss) [ inl z ↦ ap (segment_of ss) (z ∙ sym e) | inr q ↦ absurd (omega (arith, q.0)) ]
     ]
 seat-marker ss k (inr m) = seat-live k ss (mem→member k (keys ss) m)
+
 pub returns-then-s-first : goal.returns-then-s-first
 returns-then-s-first c ss ls few bs mk out = out (inl (omega arith))
 

@@ -35,6 +35,7 @@ admits profile L a r left q e = record {
   forecast = ap (λ (m : MakeReply). m.forecast) q ∙ sym (ap (λ (m : Made). m.forecast) e);
   lent-left = sym (ap (λ (m : Made). m.lent) e);
 }
+
 -- the entries of its table by the slots of a list
 size : (n : ℕ) → height_of n ≢ 0 → (1 ≤ n / 32) × (n / 32 - 1 ≡ table_size (height_of n))
 size n h =
@@ -42,18 +43,21 @@ size n h =
       | inl z ↦ absurd (h z.0)
       | inr z ↦ (omega (arith, z.2, pow_pos (height_of n)), omega (arith, z.2, pow-succ' 2 (height_of n)))
     ]
+
 pub returns-then-not-is_profile : goal.returns-then-not-is_profile
 returns-then-not-is_profile c = admits _ _ _ _ _ c.told.ensures (make-unknown _ _ (sym c.is_profile.ensures ∙ not-true _ c.if-not-is_profile.true))
 
 -- the profile is known
 known : (c : goal.Else-not-is_profile) → is_profile c.args.profile ≡ true
 known c = sym c.is_profile.ensures ∙ not-false _ c.if-not-is_profile.false
+
 pub returns-then-height_of-eq0 : goal.returns-then-height_of-eq0
 returns-then-height_of-eq0 c = admits _ _ _ _ _ c.told-then-height_of-eq0.ensures (make-refused _ _ (known (goal.at.returns-then-height_of-eq0 c).Else-not-is_profile) (sym c.height_of.ensures.0 ∙ c.if-height_of-eq0.true))
 
 -- and so is the length
 high : (c : goal.Else-height_of-eq0) → height_of (length c.args.list.now) ≢ 0
 high c e = absurd (omega (arith, c.if-height_of-eq0.false, c.height_of.ensures.0))
+
 pub returns-then-cards-n : goal.returns-then-cards-n
 returns-then-cards-n c =
     admits _ _ _ _ _ c.told-then-cards-n.ensures (make-wrong-cards _ _ (known (goal.at.returns-then-cards-n c).Else-not-is_profile) (high (goal.at.returns-then-cards-n c).Else-height_of-eq0) c.if-cards-n.true)

@@ -8,6 +8,7 @@ use Rattle.marks.proofs.put_in.Goals as goal
 -- the length with one more
 longer : (s : goal.Start) → length (insert_at s.args.k s.args.v s.args.xs.now) ≡ suc (length s.args.xs.now)
 longer s = length_inserted s.args.v s.args.k s.args.xs.now (omega arith)
+
 pub loop-i-init : goal.loop-i-init
 loop-i-init c =
     let a = c.args in

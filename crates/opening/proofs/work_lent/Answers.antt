@@ -48,9 +48,9 @@ module _ (c : goal.After-shape-1) where
 
 pub bound-requires : goal.bound-requires
 bound-requires c = record {
-      list_len_bound = (small-stands (stands (goal.at.bound-requires c).After-shape-1), refl);
-      by_index = λ k l h. get_or-replicate 64 k top 0 h;
-    }
+  list_len_bound = (small-stands (stands (goal.at.bound-requires c).After-shape-1), refl);
+  by_index = λ k l h. get_or-replicate 64 k top 0 h;
+}
 
 pub work-requires : goal.work-requires
 work-requires c =

@@ -12,6 +12,7 @@ kind-is j =
       | inl t ↦ t.1 ∙ sym (ap kind_of t.0.taken)
       | inr t ↦ t.1 ∙ sym (ap kind_of t.0.left)
     ]
+
 pub returns : goal.returns
 returns c =
     rw (

@@ -11,5 +11,6 @@ use Rattle.records.proofs.record_at.Goals as goal
 -- the part from a place to the end
 part-all : (p : ℕ) (l : List ℕ) → take (length l - p) (drop p l) ≡ drop p l
 part-all p l = take_all (length l - p) (drop p l) (omega (arith, length-drop p l))
+
 pub returns : goal.returns
 returns c = c.record_of.ensures ∙ ap record_of (part-all c.args.place c.args.bytes.now)

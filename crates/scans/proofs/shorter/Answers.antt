@@ -8,12 +8,12 @@ use Rattle.scans.proofs.shorter.Goals as goal
 
 pub returns-then-a-b : goal.returns-then-a-b
 returns-then-a-b c = let a = c.args in record {
-      range = (omega arith, omega arith);
-      is = sym (ap (λ (t : Bool). if t then a.a else a.b) (lt-ltb a.a a.b (omega arith)));
-    }
+  range = (omega arith, omega arith);
+  is = sym (ap (λ (t : Bool). if t then a.a else a.b) (lt-ltb a.a a.b (omega arith)));
+}
 
 pub returns : goal.returns
 returns c = let a = c.args in record {
-      range = (omega arith, omega arith);
-      is = sym (ap (λ (t : Bool). if t then a.a else a.b) (le-ltb a.a a.b (omega arith)));
-    }
+  range = (omega arith, omega arith);
+  is = sym (ap (λ (t : Bool). if t then a.a else a.b) (le-ltb a.a a.b (omega arith)));
+}

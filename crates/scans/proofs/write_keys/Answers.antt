@@ -18,6 +18,7 @@ use Rattle.scans.proofs.write_keys.Goals as goal
 -- a segment of the list has 64 keys at most
 few : (c : tie.Start invariant-loop decreases-loop) (k : ℕ) → 64 * k + 64 ≤ length c.args.list.now → get_or c.args.counts.now k 0 ≤ 64
 few c k h = c.requires.0.3 k (omega arith)
+
 -- the keys begin with a stretch of the first segment, and go on with those of the next
 module _ (c : goal.Start) where
   abbrev slots : List ℕ
@@ -69,9 +70,9 @@ loop-n-init c =
 
 pub copy-requires : goal.copy-requires
 copy-requires c = record {
-      n_in_bounds = (omega arith, omega arith);
-      n_in_bounds_2 = (omega arith, omega arith);
-    }
+  n_in_bounds = (omega arith, omega arith);
+  n_in_bounds_2 = (omega arith, omega arith);
+}
 
 pub returns-then-left-n : goal.returns-then-left-n
 returns-then-left-n c =
@@ -92,9 +93,9 @@ returns-then-left-n c =
 
 pub copy-requires-in-loop-n : goal.copy-requires-in-loop-n
 copy-requires-in-loop-n c = record {
-      n_in_bounds = (omega arith, omega arith);
-      n_in_bounds_2 = (omega arith, omega arith);
-    }
+  n_in_bounds = (omega arith, omega arith);
+  n_in_bounds_2 = (omega arith, omega arith);
+}
 
 pub returns-then-list-s : goal.returns-then-list-s
 returns-then-list-s c =

@@ -8,8 +8,8 @@ use Rattle.seats.proofs.seat_of.Goals as goal
 
 pub returns : goal.returns
 returns c = let a = c.args in record {
-      range = omega arith;
-      place = λ ss g few e. halved_is (bound_below a.bounds.now a.key) 0 _ _ _ _ _ _ c.seat_step-a.ensures.0 c.seat_step-b.ensures.0 c.seat_step-c.ensures.0
+  range = omega arith;
+  place = λ ss g few e. halved_is (bound_below a.bounds.now a.key) 0 _ _ _ _ _ _ c.seat_step-a.ensures.0 c.seat_step-b.ensures.0 c.seat_step-c.ensures.0
       c.seat_step-d.ensures.0 c.seat_step-e.ensures.0 c.seat_step.ensures.0
       ∙ seat-halved a.key ss a.bounds.now (omega arith) g few e;
-    }
+}

@@ -11,6 +11,7 @@ use Rattle.shares.proofs.power.Goals as goal
 -- no more than 64
 small : (i : ℕ) → i ≤ 6 → 2 ^ i ≤ 64
 small i h = pow-le-pow_right {n = 2} (lit≤ tt) {i = i} {j = 6} h
+
 pub loop-i-init : goal.loop-i-init
 loop-i-init c = (omega arith, sym (pow-zero 2))
 

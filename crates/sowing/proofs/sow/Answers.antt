@@ -9,6 +9,7 @@ use Rattle.sowing.proofs.sow.Goals as goal
 -- what is given at the entry
 abbrev given : (s : goal.Start) → Planted s.args.window.now s.args.counts.now s.args.plan.now s.args.p s.args.key s.args.grows
 given s = s.requires.planted
+
 -- once the keys are packed
 module _ (c : goal.After-pack-m) where
   abbrev packed : Packed c.args.counts.now c.args.window.now c.pack-m.result c.pack-m.new.window
@@ -16,10 +17,10 @@ module _ (c : goal.After-pack-m) where
 
 pub pack-m-requires : goal.pack-m-requires
 pack-m-requires c = let d = given (goal.at.pack-m-requires c).Start in record {
-      window_len = sized d;
-      by_index = counts-fit d;
-      cards_len = c.requires.cards_len;
-    }
+  window_len = sized d;
+  by_index = counts-fit d;
+  cards_len = c.requires.cards_len;
+}
 
 pub overflow_add-m : goal.overflow_add-m
 overflow_add-m c = omega (arith, (packed (goal.at.overflow_add-m c).After-pack-m).many, keys-few (given (goal.at.overflow_add-m c).Start))

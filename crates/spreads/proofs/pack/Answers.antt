@@ -19,9 +19,9 @@ loop-s-init c = (omega arith, omega arith, refl, refl, refl, refl, refl, λ f h.
 
 pub move_left-requires : goal.move_left-requires
 move_left-requires c = omega record {
-      to_le_from = arith;
-      cards_len = c.requires.by_index c.loop-s.s;
-    }
+  to_le_from = arith;
+  cards_len = c.requires.by_index c.loop-s.s;
+}
 
 pub overflow_add-at : goal.overflow_add-at
 overflow_add-at c = omega (arith, c.requires.by_index c.loop-s.s)

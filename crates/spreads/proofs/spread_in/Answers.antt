@@ -36,9 +36,9 @@ overflow_add-to c = omega (arith, c.requires.by_index (c.loop-s.s - 1))
 
 pub clear-requires : goal.clear-requires
 clear-requires c = omega record {
-      a_le_e = arith;
-      cards_len = c.requires.by_index (c.loop-s.s - 1);
-    }
+  a_le_e = arith;
+  cards_len = c.requires.by_index (c.loop-s.s - 1);
+}
 
 pub loop-s-preserved : goal.loop-s-preserved
 loop-s-preserved c =

@@ -23,6 +23,7 @@ gathered j =
       | inr (inl w) ↦ (32, w.0.taken, omega (arith, w.2.left), rw w.3 (gathers-before cards 32 48 48 64 (omega arith) (omega arith) (omega arith) last w.1.ensures))
       | inr (inr w) ↦ (48, j.if-c-gt48.false, omega (arith, w.0.left), rw w.1 last)
     ]
+
 pub returns : goal.returns
 returns c =
     let s = c.args in

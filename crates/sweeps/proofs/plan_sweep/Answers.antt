@@ -23,9 +23,11 @@ use Rattle.sweeps.proofs.plan_sweep.Goals as goal
 -- the rows are arrays of seven
 rows_long : (s : goal.Start) → (length s.args.shape.lows ≡ 7) × (length s.args.shape.highs ≡ 7)
 rows_long s = (search rules, search rules)
+
 -- a part of the buffer is lent
 buffer : (s : tie.Start) {n : ℕ} → n ≤ 64 → length (take n s.args.plan.now) ≡ n
 buffer s {n} h = length-take-le n s.args.plan.now (omega (arith, s.requires.1.1))
+
 -- the window
 module _ (c : goal.After-power-n) where
   abbrev n : ℕ

@@ -9,6 +9,7 @@ use Rattle.sweeps.proofs.recount.Goals as goal
 -- the plan's places are in the table
 ends : (s : goal.Start) → s.args.first + length s.args.plan.now ≤ 64
 ends s = omega (arith, s.requires.0.4, few-segments s.requires.0.3)
+
 pub keep-requires : goal.keep-requires
 keep-requires c = omega (arith, c.requires.0.4, table-holds c.requires.0.3)
 
@@ -19,12 +20,11 @@ pub overflow_sub-first : goal.overflow_sub-first
 overflow_sub-first c = omega (arith, c.requires.1)
 
 pub sum_over-requires : goal.sum_over-requires
-sum_over-requires c =
-    (
-      recount-asks c.args.first c.args.table.now c.args.plan.now _ c.requires.1 c.keep.ensures c.requires.0.3 c.requires.0.4 c.requires.2,
-      omega (arith, c.requires.1),
-      omega (arith, c.requires.1, c.requires.0.4, table-many c.requires.0.3),
-    )
+sum_over-requires c = (
+  recount-asks c.args.first c.args.table.now c.args.plan.now _ c.requires.1 c.keep.ensures c.requires.0.3 c.requires.0.4 c.requires.2,
+  omega (arith, c.requires.1),
+  omega (arith, c.requires.1, c.requires.0.4, table-many c.requires.0.3),
+)
 
 pub returns : goal.returns
 returns c h ss window size right counts =

@@ -11,6 +11,7 @@ use Rattle.words.proofs.read_forecast.Given as goal
 
 abbrev pub segment : Cell → ℕ
 segment c = capped c.segment
+
 abbrev pub count : Cell → ℕ
 count c = capped c.count
 

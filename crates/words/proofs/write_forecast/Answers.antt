@@ -10,6 +10,7 @@ use Rattle.words.proofs.write_forecast.Goals as goal
 -- the rows have room for 12
 roomy : (s : goal.Start) → Roomy s.args.t1
 roomy s = record { markers = search rules; segments = search rules; counts = search rules }
+
 pub loop-i-init : goal.loop-i-init
 loop-i-init c =
     (omega arith, rw length-set c.requires, rw length-set c.requires, write-start c.args.t1 c.args.words.now (omega (arith, c.requires)))

@@ -22,6 +22,7 @@ returns-then-not-place c F s =
 under : (c : goal.Else-not-place) → c.spot-spot.result.place.at < c.spot-spot.result.place.held
 under c =
     out-under c.requires.stands c.if-key-eq0.false c.spot-spot.ensures (not-false _ c.if-not-place.false)
+
 pub climb-found-requires : goal.climb-found-requires
 climb-found-requires c =
     climb-asks c.requires (place_in c.requires.stands c.spot-spot.ensures.place) (omega (arith, place-held c.requires.stands c.spot-spot.ensures.place, under (goal.at.climb-found-requires c).Else-not-place)) (omega arith)

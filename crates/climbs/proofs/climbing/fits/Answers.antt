@@ -10,8 +10,10 @@ use Rattle.climbs.proofs.climbing.fits.Goals as goal
 -- the shares that are read
 low : (c : goal.After-wide) → c.wide.result ≡ (shares_at c.args.t1).low c.args.level
 low c = c.wide.ensures ∙ c.requires.5.rows.low.is _ c.requires.2
+
 high : (c : goal.After-wide-2) → c.wide-2.result ≡ (shares_at c.args.t1).high c.args.level
 high c = c.wide-2.ensures ∙ c.requires.5.rows.high.is _ c.requires.2
+
 pub bounds-shape-level : goal.bounds-shape-level
 bounds-shape-level c = omega (arith, c.requires.5.rows.low.long)
 

@@ -9,8 +9,8 @@ use Rattle.forecast.proofs.Rows.{closing-more}
 use Rattle.forecast.proofs.Stepping.{cells-used}
 use Rattle.forecast.proofs.Forecast.drop_marker.Proof.Lemmas.{begun, gone, kept}
 use Rattle.forecast.proofs.Forecast.drop_marker.Goals as goal
-
 mod Lemmas
+
 pub loop-i-init : goal.loop-i-init
 loop-i-init c =
     let b = begun c.args.t1 c.requires _ c.if-at-used.true in

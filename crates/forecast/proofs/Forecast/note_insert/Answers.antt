@@ -9,9 +9,9 @@ use native.Mathlib.Omega.{arith}
 use Rattle.forecast.proofs.Forecast.note_insert.Proof.Lemmas.{raised-first, raised-ahead, pushed, is-raised, is-spent, is-new, is-full}
 use Rattle.forecast.proofs.Forecast.note_insert.Proof.Tail.{lowered-gone, lowered-less}
 use Rattle.forecast.proofs.Forecast.note_insert.Goals as goal
-
 mod Lemmas
 mod Tail
+
 pub returns-then-at-eq0 : goal.returns-then-at-eq0
 returns-then-at-eq0 c =
     let k : get_or c.args.t1.counts c.first_of-at.result 0 < c.args.p = omega arith in
@@ -32,12 +32,14 @@ returns-then-used-p c =
 -- where the two ways meet: some cell is used, and the tail's count drops
 pos : (j : goal.Joined-at-used) → 0 < j.args.t1.used
 pos j = ⊎_elim (λ w. omega arith) (λ w. omega arith) j.if-at-used.branch
+
 spent : (j : goal.Joined-at-used) → noted j.args.p j.args.marker j.args.segment (used_cells j.args.t1) ≡ tailed (used_cells j.args.t1)
 spent j =
     ⊎_elim
     (λ w. is-spent j.args.t1 j.requires.tidy _ _ _ _ j.first_of-at.ensures w.0.taken (omega arith))
     (λ w. is-full j.args.t1 j.requires.tidy _ _ _ _ j.first_of-at.ensures w.0.left w.1.left)
     j.if-at-used.branch
+
 pub overflow_sub-tail : goal.overflow_sub-tail
 overflow_sub-tail c = pos (goal.at.overflow_sub-tail c).Joined-at-used
 

@@ -6,8 +6,8 @@ use Rattle.slots.specs.Keys.{segment_of}
 use Rattle.forecast.proofs.Stepping.{segments-row}
 use Rattle.forecast.proofs.Forecast.retarget.Proof.Lemmas.{tidy-aimed, marked, unaimed, aim-more, aimed-all}
 use Rattle.forecast.proofs.Forecast.retarget.Goals as goal
-
 mod Lemmas
+
 pub loop-i-init : goal.loop-i-init
 loop-i-init c = (omega arith, refl, c.requires.tidy, refl, refl, λ ss ls some few bs lv el. segments-row c.args.t1 c.requires.tidy)
 

@@ -7,6 +7,7 @@ use Rattle.list.proofs.changing.delete.Goals as goal
 -- what is lent
 abbrev lent : tie.Start → Lent
 lent s = lend s.args.list.now s.args.cards.now s.args.table.now
+
 pub returns-in-Refused : goal.returns-in-Refused
 returns-in-Refused c =
     let ask = c.ask-reply in

@@ -24,6 +24,6 @@ loop-lo-preserved c =
 
 pub returns : goal.returns
 returns c = record {
-      range = omega arith;
-      keys = λ ks live fits whole. omega (arith, c.loop-lo.invariant.2 ks live fits whole);
-    }
+  range = omega arith;
+  keys = λ ks live fits whole. omega (arith, c.loop-lo.invariant.2 ks live fits whole);
+}

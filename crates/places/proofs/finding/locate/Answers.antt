@@ -4,8 +4,8 @@ use native.Mathlib.Omega.{arith}
 use lib.ListN.{length-take, length-drop}
 use Rattle.places.proofs.finding.locate.Proof.Lemmas.{located-slot, located-past}
 use Rattle.places.proofs.finding.locate.Goals as goal
-
 mod Lemmas
+
 pub returns-then-at-held : goal.returns-then-at-held
 returns-then-at-held c =
     let a = c.args in

@@ -35,6 +35,6 @@ loop-lo-preserved c =
 
 pub returns : goal.returns
 returns c = record {
-      range = omega arith;
-      place = λ r. omega (arith, c.loop-lo.invariant.2 r);
-    }
+  range = omega arith;
+  place = λ r. omega (arith, c.loop-lo.invariant.2 r);
+}

@@ -28,17 +28,16 @@ module _ (c : goal.After-reach-end) where
 
 pub pass-passed-requires : goal.pass-passed-requires
 pass-passed-requires c = record {
-      by_index = c.requires.by_index;
-      i_le_keys = omega arith;
-    }
+  by_index = c.requires.by_index;
+  i_le_keys = omega arith;
+}
 
 pub loop-part-init : goal.loop-part-init
-loop-part-init c =
-    (
-      (omega arith, c.requires.halves.0.some),
-      omega arith,
-      λ ws d. scan-start c.args.c c.args.first c.args.last ws c.args.at.now c.args.weights.now c.args.part c.requires.halves.0 d c.pass-passed.result (c.pass-passed.ensures ws d),
-    )
+loop-part-init c = (
+  (omega arith, c.requires.halves.0.some),
+  omega arith,
+  λ ws d. scan-start c.args.c c.args.first c.args.last ws c.args.at.now c.args.weights.now c.args.part c.requires.halves.0 d c.pass-passed.result (c.pass-passed.ensures ws d),
+)
 
 pub reach-end-requires : goal.reach-end-requires
 reach-end-requires c =
@@ -64,15 +63,14 @@ pub loop-part-smaller : goal.loop-part-smaller
 loop-part-smaller c = let k = one (goal.at.loop-part-smaller c).After-reach-end in omega (arith, k.from, k.to, c.if-end-last.false)
 
 pub loop-part-preserved : goal.loop-part-preserved
-loop-part-preserved c =
-    (
-      (omega (arith, (one (goal.at.loop-part-preserved c).After-reach-end).from, c.loop-part.invariant.0), omega (arith, (one (goal.at.loop-part-preserved c).After-reach-end).to, c.if-end-last.false)),
-      c.nearest-found.ensures.range,
-      λ ws d. record {
-        passed = (known r ws d).on c.if-end-last.false c.pass_one-passed.result c.pass_one-passed.ensures.0 c.pass_one-passed.ensures.1;
-        best = c.nearest-found.ensures.nearest ∙ (known r ws d).best;
-      },
-    )
+loop-part-preserved c = (
+  (omega (arith, (one (goal.at.loop-part-preserved c).After-reach-end).from, c.loop-part.invariant.0), omega (arith, (one (goal.at.loop-part-preserved c).After-reach-end).to, c.if-end-last.false)),
+  c.nearest-found.ensures.range,
+  λ ws d. record {
+    passed = (known r ws d).on c.if-end-last.false c.pass_one-passed.result c.pass_one-passed.ensures.0 c.pass_one-passed.ensures.1;
+    best = c.nearest-found.ensures.nearest ∙ (known r ws d).best;
+  },
+)
 
 pub returns : goal.returns
 returns c =

@@ -24,6 +24,7 @@ module _ (s : goal.Start) where
 -- the bounds of the scan
 first-is : (c : goal.After-smaller-last) → c.larger-first.result ≡ first (half c.before.before.before.before.before.before.before) (low c.before.before.before.before.before.before.before) (high c.before.before.before.before.before.before.before) (m c.before.before.before.before.before.before.before)
 first-is c = omega (arith, c.larger-first.ensures, c.over.ensures)
+
 pub overflow_add-result : goal.overflow_add-result
 overflow_add-result c = omega (arith, c.requires.splits.most, c.requires.splits.small, tops (half (goal.at.overflow_add-result c).Start) (low (goal.at.overflow_add-result c).Start) (high (goal.at.overflow_add-result c).Start) (m (goal.at.overflow_add-result c).Start) c.requires.splits)
 

@@ -5,6 +5,6 @@ use Rattle.replies.proofs.writing.tell_one.Goals as goal
 
 pub returns : goal.returns
 returns c = record {
-      number = refl;
-      words = over-one c.args.reply.now _ c.requires;
-    }
+  number = refl;
+  words = over-one c.args.reply.now _ c.requires;
+}

@@ -8,6 +8,7 @@ use Rattle.run.proofs.running.run_with.Goals as goal
 -- the totals are of 32 bits each
 reading : (s : goal.Start) → Reading s.args.totals
 reading s = record { worked = search rules; refused = search rules; moved = search rules; sweeps = search rules }
+
 pub returns : goal.returns
 returns c =
     rw c.add_tally.ensures

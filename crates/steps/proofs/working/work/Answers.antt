@@ -30,8 +30,10 @@ use Rattle.steps.proofs.working.work.Goals as goal
 
 roomy : (s : goal.Start) → Roomy s.args.forecast
 roomy s = record { markers = search rules; segments = search rules; counts = search rules }
+
 few : (c : goal.After-shared_slice_known-1) → length c.args.requests.now < 2 ^ 64
 few c = search rules
+
 -- the record at this turn, and what it comes to
 module _ (c : goal.After-struct_known-in-loop-tally-1) where
   abbrev lent : Lent
@@ -221,6 +223,7 @@ next-tally-requires c =
 -- the counts then, by the record's bytes
 counts : (c : goal.After-next-tally) → c.next-tally.result ≡ next_of (here c.before.before.before.before.before.before).tally (aimed c.before.before.before.before.before.before) (next (lent c.before.before.before.before.before.before) (here c.before.before.before.before.before.before)).size
 counts c = c.next-tally.ensures ∙ ap (λ (z : Record). next_of (here c.before.before.before.before.before.before).tally (aimed c.before.before.before.before.before.before) z.size) (is-next c.before.before.before.before.before.before)
+
 pub loop-tally-smaller : goal.loop-tally-smaller
 loop-tally-smaller c = nearer (at-record (goal.at.loop-tally-smaller c).After-struct_known-in-loop-tally-1) (counts (goal.at.loop-tally-smaller c).After-next-tally)
 

@@ -12,6 +12,7 @@ use Rattle.stretches.proofs.passing.mark_from.Goals as goal
 -- the length of the part looked at
 len : (c : goal.Start) → length (take c.args.n c.args.at.now) ≡ c.args.n
 len c = length-take-le _ _ (omega arith)
+
 pub returns-then-place-at : goal.returns-then-place-at
 returns-then-place-at c =
     let k = c.loop-k.k in record {
@@ -30,6 +31,6 @@ loop-k-preserved c =
 
 pub returns : goal.returns
 returns c = record {
-      range = omega arith;
-      place = sym (passed-all _ _ _ (omega (arith, len (goal.at.returns c).Start)) c.loop-k.invariant.1);
-    }
+  range = omega arith;
+  place = sym (passed-all _ _ _ (omega (arith, len (goal.at.returns c).Start)) c.loop-k.invariant.1);
+}

@@ -14,5 +14,6 @@ over-all (v ∷ w ∷ []) a b c d h = absurd (omega arith)
 over-all (v ∷ w ∷ x ∷ []) a b c d h = absurd (omega arith)
 over-all (v ∷ w ∷ x ∷ y ∷ []) a b c d h = refl
 over-all (v ∷ w ∷ x ∷ y ∷ z ∷ ws) a b c d h = absurd (omega arith)
+
 pub returns : goal.returns
 returns c = over-all c.args.words.now _ _ _ _ c.requires

@@ -7,7 +7,7 @@ use lib.ListN.{length, get_or, set}
 use Rattle.forecast.specs.Cells.{used_cells}
 use Rattle.forecast.proofs.Rows.{closing-more}
 use Rattle.forecast.proofs.Stepping.{cells-used}
-use Rattle.forecast.proofs.Forecast.drop_marker.Proof.Lemmas.{begun, gone, kept}
+use Rattle.forecast.proofs.Forecast.drop_marker.Answers.Lemmas.{begun, gone, kept}
 use Rattle.forecast.proofs.Forecast.drop_marker.Goals as goal
 mod Lemmas
 

@@ -6,8 +6,8 @@ use mathlib.Core.Logic.{⊎_elim}
 use Rattle.cells.specs.Steps.{tailed, noted}
 use Rattle.forecast.specs.Cells.{used_cells}
 use native.Mathlib.Omega.{arith}
-use Rattle.forecast.proofs.Forecast.note_insert.Proof.Lemmas.{raised-first, raised-ahead, pushed, is-raised, is-spent, is-new, is-full}
-use Rattle.forecast.proofs.Forecast.note_insert.Proof.Tail.{lowered-gone, lowered-less}
+use Rattle.forecast.proofs.Forecast.note_insert.Answers.Lemmas.{raised-first, raised-ahead, pushed, is-raised, is-spent, is-new, is-full}
+use Rattle.forecast.proofs.Forecast.note_insert.Answers.Tail.{lowered-gone, lowered-less}
 use Rattle.forecast.proofs.Forecast.note_insert.Goals as goal
 mod Lemmas
 mod Tail

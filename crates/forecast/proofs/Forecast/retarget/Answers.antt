@@ -4,7 +4,7 @@ use mathlib.Core.Path.{refl}
 use native.Mathlib.Omega.{arith}
 use Rattle.slots.specs.Keys.{segment_of}
 use Rattle.forecast.proofs.Stepping.{segments-row}
-use Rattle.forecast.proofs.Forecast.retarget.Proof.Lemmas.{tidy-aimed, marked, unaimed, aim-more, aimed-all}
+use Rattle.forecast.proofs.Forecast.retarget.Answers.Lemmas.{tidy-aimed, marked, unaimed, aim-more, aimed-all}
 use Rattle.forecast.proofs.Forecast.retarget.Goals as goal
 mod Lemmas
 

@@ -7,7 +7,7 @@ use Rattle.slots.specs.Keys.{Listed, segment_of}
 use Rattle.seats.specs.Bounds.{Bounded}
 use Rattle.forecast.specs.Cells.{used_cells}
 use Rattle.forecast.specs.Tidy.{Tidy, Live, Elsewhere}
-use Rattle.forecast.proofs.Forecast.retarget.Proof.Lemmas.{aiming}
+use Rattle.forecast.proofs.Forecast.retarget.Answers.Lemmas.{aiming}
 use Rattle.forecast.proofs.Forecast.retarget.Given as goal
 
 abbrev pub invariant-loop-i : goal.invariant-loop-i

@@ -2,7 +2,7 @@
 use Prim.Native.Nat.{◌≤◌}
 use native.Mathlib.Omega.{arith}
 use lib.ListN.{length-take, length-drop}
-use Rattle.places.proofs.finding.locate.Proof.Lemmas.{located-slot, located-past}
+use Rattle.places.proofs.finding.locate.Answers.Lemmas.{located-slot, located-past}
 use Rattle.places.proofs.finding.locate.Goals as goal
 mod Lemmas
 

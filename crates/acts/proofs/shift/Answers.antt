@@ -19,8 +19,8 @@ returns-then-aim c =
     let grows = c.if-aim.true in
     let puts = c.put_in.ensures in
     record {
-      left = λ F shape A. shifted_in A grows c.requires.level_value puts.0;
-      cards = λ f z y h. puts.1 f (y grows) h;
+      left = λ F shape A. shifted_in A grows c.requires.level_value puts.index;
+      cards = λ f z y h. puts.cards f (y grows) h;
     }
 
 pub cut_out-requires : goal.cut_out-requires
@@ -36,6 +36,6 @@ pub returns : goal.returns
 returns c =
     let cuts = c.cut_out.ensures in
     record {
-      left = λ F shape A. shifted-out A c.if-aim.false c.requires.level_value cuts.0;
-      cards = λ f z y h. cuts.1 f z h;
+      left = λ F shape A. shifted-out A c.if-aim.false c.requires.level_value cuts.index;
+      cards = λ f z y h. cuts.cards f z h;
     }

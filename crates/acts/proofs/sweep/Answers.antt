@@ -15,8 +15,8 @@ sweep-requires c =
     let given = c.requires.plan_len.0 in
     let plan = c.plan_sweep in
     record {
-      acting = (given.0, c.args.shape, given.1, plan.ensures.1 _ _ given.1 given.2);
-      le_level = (c.requires.le_level.0, omega (arith, plan.ensures.0, c.requires.plan_len.1));
+      acting = (given.0, c.args.shape, given.1, plan.ensures.plan _ _ given.1 given.2);
+      le_level = (c.requires.le_level.0, omega (arith, plan.ensures.range, c.requires.plan_len.1));
       cards_len = c.requires.le_level.1;
     }
 
@@ -25,7 +25,7 @@ returns c =
     let plan = c.plan_sweep in
     let sweeps = c.sweep.ensures in
     record {
-      range = plan.ensures.0;
-      left = λ F A N. sweeps.0 _ _ A (plan.ensures.1 _ _ A N);
-      cards = sweeps.1;
+      range = plan.ensures.range;
+      left = λ F A N. sweeps.left _ _ A (plan.ensures.plan _ _ A N);
+      cards = sweeps.cards;
     }

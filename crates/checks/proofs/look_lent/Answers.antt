@@ -8,11 +8,11 @@ pub then_table-requires : goal.then_table-requires
 then_table-requires c =
     let L = lend c.args.list.now c.args.cards.now c.args.table.now in
     let look = c.look_over_both-listing.ensures in
-    (c.args.profile, c.args.list.now, _, look.0 c.args.table.now, both-list c.args.profile L c.args.forecast, refl, look.1)
+    (c.args.profile, c.args.list.now, _, look.looked c.args.table.now, both-list c.args.profile L c.args.forecast, refl, look.counts)
 
 pub returns : goal.returns
 returns c =
     let L = lend c.args.list.now c.args.cards.now c.args.table.now in
     let look = c.look_over_both-listing.ensures in
     lent-looked c.args.profile L c.args.forecast _
-    (c.then_table.ensures c.args.profile c.args.list.now c.args.cards.now _ (look.0 c.args.table.now) (both-list c.args.profile L c.args.forecast) refl look.1)
+    (c.then_table.ensures c.args.profile c.args.list.now c.args.cards.now _ (look.looked c.args.table.now) (both-list c.args.profile L c.args.forecast) refl look.counts)

@@ -26,8 +26,8 @@ pub returns-in-Refused : goal.returns-in-Refused
 returns-in-Refused c =
     let look = c.look_over-listing.ensures in
     let told = c.enum_told-1.given.1 in record {
-      looked = λ table. renumbered _ (sym (forecast-stays _ _ _ _ (λ e. refused-some _ _ told ((look.0 table).number ∙ e)))) (look.0 table);
-      counts = look.1;
+      looked = λ table. renumbered _ (sym (forecast-stays _ _ _ _ (λ e. refused-some _ _ told ((look.looked table).number ∙ e)))) (look.looked table);
+      counts = look.counts;
     }
 
 -- the list and its cards pass

@@ -7,8 +7,8 @@ use Rattle.copying.proofs.copy.Given as goal
 
 abbrev pub invariant-loop-i : goal.invariant-loop-i
 invariant-loop-i l =
-    (l.i < l.e + 4) × (l.e + 4 ≡ l.n) × (length l.output ≡ length l.initial.output) × (length l.output-cards ≡ length l.initial.output-cards)
-    × (l.output ≡ paste l.initial.output l.w (drop l.a l.list) l.i) × (l.output-cards ≡ paste l.initial.output-cards l.w (drop l.a l.cards) l.i)
+    (l.i < l.e + 4) × (l.e + 4 ≡ l.n) × (length l.output ≡ length l.initial.output) × (length l.output_cards ≡ length l.initial.output_cards)
+    × (l.output ≡ paste l.initial.output l.w (drop l.a l.list) l.i) × (l.output_cards ≡ paste l.initial.output_cards l.w (drop l.a l.cards) l.i)
 
 abbrev pub decreases-loop-i : goal.decreases-loop-i
 decreases-loop-i l = l.n - l.i

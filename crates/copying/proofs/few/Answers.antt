@@ -29,5 +29,5 @@ returns c =
     let e : c.loop-i.i ≡ a.n = omega arith in
     record {
       slots = inv.3 ∙ ap (λ (n : ℕ). paste a.output.now a.w (drop a.a a.list.now) n) e;
-      cards = inv.4 ∙ ap (λ (n : ℕ). paste a.output-cards.now a.w (drop a.a a.cards.now) n) e;
+      cards = inv.4 ∙ ap (λ (n : ℕ). paste a.output_cards.now a.w (drop a.a a.cards.now) n) e;
     }

@@ -18,14 +18,14 @@ loop-e-preserved-then-list-s c =
     let g = c.args in
     let L = c.loop-e in
     let f = c.first_in-s in
-    (omega arith, omega arith, λ F. sought-up g.n g.list.now g.table.now g.key L.e L.a L.m F (L.invariant.2 F) (omega arith) L.invariant.1 f.result (λ w v. f.ensures.1 F.sums w v c.if-table-right-eq0.false) (omega arith))
+    (omega arith, omega arith, λ F. sought-up g.n g.list.now g.table.now g.key L.e L.a L.m F (L.invariant.2 F) (omega arith) L.invariant.1 f.result (λ w v. f.ensures.place F.sums w v c.if-table-right-eq0.false) (omega arith))
 
 pub loop-e-preserved : goal.loop-e-preserved
 loop-e-preserved c =
     let g = c.args in
     let L = c.loop-e in
     let f = c.first_in-s in
-    (omega arith, omega arith, λ F. sought-down g.n g.list.now g.table.now g.key L.e L.a L.m F (L.invariant.2 F) (omega arith) L.invariant.1 f.result (λ w v. f.ensures.1 F.sums w v c.if-table-right-eq0.false) (omega arith))
+    (omega arith, omega arith, λ F. sought-down g.n g.list.now g.table.now g.key L.e L.a L.m F (L.invariant.2 F) (omega arith) L.invariant.1 f.result (λ w v. f.ensures.place F.sums w v c.if-table-right-eq0.false) (omega arith))
 
 pub returns : goal.returns
 returns c =

@@ -7,6 +7,6 @@ pub returns : goal.returns
 returns c =
     let promise = c.move_left.ensures in
     record {
-      slots = rw promise.0 (close-step _ _ _ _ (omega arith) (omega arith));
-      cards = rw promise.1 (close-step _ _ _ _ (omega arith) (omega arith));
+      slots = rw promise.slots (close-step _ _ _ _ (omega arith) (omega arith));
+      cards = rw promise.cards (close-step _ _ _ _ (omega arith) (omega arith));
     }

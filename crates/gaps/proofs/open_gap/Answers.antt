@@ -7,6 +7,6 @@ pub returns : goal.returns
 returns c =
     let promise = c.move_right.ensures in
     record {
-      slots = rw promise.0 (open_step _ _ _ _ (omega arith) (omega arith));
-      cards = rw promise.1 (open_step _ _ _ _ (omega arith) (omega arith));
+      slots = rw promise.slots (open_step _ _ _ _ (omega arith) (omega arith));
+      cards = rw promise.cards (open_step _ _ _ _ (omega arith) (omega arith));
     }

@@ -31,7 +31,7 @@ module _ (s : goal.Start) where
   output = s.args.output.now
 
   abbrev output-cards : List ℕ
-  output-cards = s.args.output-cards.now
+  output-cards = s.args.output_cards.now
 
   abbrev ss : Segments
   ss = segments_of s.args.list.now

@@ -76,8 +76,8 @@ returns c =
     let a = c.args in
     let L : Lent = lend a.list.now a.cards.now a.table.now in
     let both = c.clear.ensures in
-    let slots = both.0 ∙ all-cleared L.slots in
-    let cards = both.1 ∙ ap (λ (n : ℕ). cleared 0 n 0 L.cards) (sym c.if-cards-n.false) ∙ all-cleared L.cards in
+    let slots = both.slots ∙ all-cleared L.slots in
+    let cards = both.cards ∙ ap (λ (n : ℕ). cleared 0 n 0 L.cards) (sym c.if-cards-n.false) ∙ all-cleared L.cards in
     let table = c.clear-2.ensures in
     admits _ L _ _ _ c.told-2.ensures
     (make-done _ L (known (goal.at.returns c).Else-not-is_profile) (high (goal.at.returns c).Else-height_of-eq0) c.if-cards-n.false (c.if-table-n.false ∙ (size _ (high (goal.at.returns c).Else-height_of-eq0)).1)

@@ -11,7 +11,7 @@ returns c =
     let told = c.delete_told-told in
     let tell = c.tell_two-number in
     record {
-      number = tell.ensures.0 ∙ ap (λ (t : Told). t.number) told.ensures;
+      number = tell.ensures.number ∙ ap (λ (t : Told). t.number) told.ensures;
       forecast-left = c.hand_back.ensures;
-      reply-left = tell.ensures.1 ∙ ap (λ (t : Told). over (two_words t) reply) told.ensures;
+      reply-left = tell.ensures.words ∙ ap (λ (t : Told). over (two_words t) reply) told.ensures;
     }

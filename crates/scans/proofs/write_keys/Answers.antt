@@ -81,14 +81,14 @@ returns-then-left-n c =
     let room = c.shorter-room in
     let copies = c.copy.ensures in
     let more = c.if-left-n.true in
-    let full : l.w + (room.result - l.w) ≡ shorter (length a.output.now) (length a.output-cards.now) = omega (arith, room.ensures.1) in record {
+    let full : l.w + (room.result - l.w) ≡ shorter (length a.output.now) (length a.output_cards.now) = omega (arith, room.ensures.is) in record {
       keys = λ ss sh e.
           page-full (keys_from a.first a.at ss) a.output.now l.output (keys (drop l.s ss)) (drop l.a a.list.now) l.w l.n (l.invariant.5 ss sh e)
-          (simp length-drop (omega arith)) _ _ _ full more copies.0;
+          (simp length-drop (omega arith)) _ _ _ full more copies.slots;
       cards = λ f ss sh e k.
           cards-written f (keys_from a.first a.at ss)
-          (page-full (map f (keys_from a.first a.at ss)) a.output-cards.now l.output-cards (map f (keys (drop l.s ss))) (drop l.a a.cards.now) l.w l.n (l.invariant.6 f ss sh e k)
-          (simp length-drop (omega arith)) _ _ _ full more copies.1);
+          (page-full (map f (keys_from a.first a.at ss)) a.output_cards.now l.output-cards (map f (keys (drop l.s ss))) (drop l.a a.cards.now) l.w l.n (l.invariant.6 f ss sh e k)
+          (simp length-drop (omega arith)) _ _ _ full more copies.cards);
     }
 
 pub copy-requires-in-loop-n : goal.copy-requires-in-loop-n
@@ -103,16 +103,16 @@ returns-then-list-s c =
     let l = c.loop-n in
     let room = c.shorter-room in
     let copies = c.copy-in-loop-n.ensures in
-    let fits : l.w + l.n ≤ shorter (length a.output.now) (length a.output-cards.now) = omega (arith, room.ensures.1) in record {
+    let fits : l.w + l.n ≤ shorter (length a.output.now) (length a.output_cards.now) = omega (arith, room.ensures.is) in record {
       keys = λ ss sh e.
           page-ended _
           (halfway-more (keys_from a.first a.at ss) a.output.now l.output (keys (drop l.s ss)) (drop l.a a.list.now) l.w l.n (l.invariant.5 ss sh e)
-          (simp length-drop (omega arith)) _ copies.0) (none_after ss a.list.now sh l.s c.if-list-s.true) fits;
+          (simp length-drop (omega arith)) _ copies.slots) (none_after ss a.list.now sh l.s c.if-list-s.true) fits;
       cards = λ f ss sh e k.
           cards-written f (keys_from a.first a.at ss)
           (page-ended _
-          (halfway-more (map f (keys_from a.first a.at ss)) a.output-cards.now l.output-cards (map f (keys (drop l.s ss))) (drop l.a a.cards.now) l.w l.n (l.invariant.6 f ss sh e k)
-          (simp length-drop (omega arith)) _ copies.1) (ap (map f) (none_after ss a.list.now sh l.s c.if-list-s.true)) fits);
+          (halfway-more (map f (keys_from a.first a.at ss)) a.output_cards.now l.output-cards (map f (keys (drop l.s ss))) (drop l.a a.cards.now) l.w l.n (l.invariant.6 f ss sh e k)
+          (simp length-drop (omega arith)) _ copies.cards) (ap (map f) (none_after ss a.list.now sh l.s c.if-list-s.true)) fits);
     }
 
 pub loop-n-preserved : goal.loop-n-preserved
@@ -131,11 +131,11 @@ loop-n-preserved c =
       λ ss sh e.
           halfway-later
           (halfway-more (keys_from a.first a.at ss) a.output.now l.output (keys (drop l.s ss)) (drop l.a list) l.w l.n (l.invariant.5 ss sh e)
-          (simp length-drop (omega arith)) _ copies.0)
+          (simp length-drop (omega arith)) _ copies.slots)
           _ _ (goes_on (goal.at.loop-n-preserved c).Start l.s h ss sh e),
       λ f ss sh e k.
           halfway-later
-          (halfway-more (map f (keys_from a.first a.at ss)) a.output-cards.now l.output-cards (map f (keys (drop l.s ss))) (drop l.a a.cards.now) l.w l.n (l.invariant.6 f ss sh e k)
-          (simp length-drop (omega arith)) _ copies.1)
+          (halfway-more (map f (keys_from a.first a.at ss)) a.output_cards.now l.output-cards (map f (keys (drop l.s ss))) (drop l.a a.cards.now) l.w l.n (l.invariant.6 f ss sh e k)
+          (simp length-drop (omega arith)) _ copies.cards)
           _ _ (cards-go-on z f k l.s h ss sh e),
     )

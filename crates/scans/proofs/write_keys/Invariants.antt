@@ -15,10 +15,10 @@ Counted counts ss = (k : ℕ) → k < length ss → get_or counts k 0 ≡ length
 
 abbrev pub invariant-loop-n : goal.invariant-loop-n
 invariant-loop-n l =
-    (l.w ≤ l.room) × (length l.output ≡ length l.initial.output) × (length l.output-cards ≡ length l.initial.output-cards) × (l.a + l.n ≤ length l.list) × (64 * l.s ≤ length l.list)
+    (l.w ≤ l.room) × (length l.output ≡ length l.initial.output) × (length l.output_cards ≡ length l.initial.output_cards) × (l.a + l.n ≤ length l.list) × (64 * l.s ≤ length l.list)
     × ((ss : Segments) → Shows ss l.list → Counted l.counts ss → Halfway (keys_from l.first l.at ss) l.initial.output l.output l.w (take l.n (drop l.a l.list)) (keys (drop l.s ss)))
     × ((f : ℕ → ℕ) (ss : Segments) → Shows ss l.list → Counted l.counts ss → l.cards ≡ map f l.list
-    → Halfway (map f (keys_from l.first l.at ss)) l.initial.output-cards l.output-cards l.w (take l.n (drop l.a l.cards)) (map f (keys (drop l.s ss))))
+    → Halfway (map f (keys_from l.first l.at ss)) l.initial.output_cards l.output_cards l.w (take l.n (drop l.a l.cards)) (map f (keys (drop l.s ss))))
 
 abbrev pub decreases-loop-n : goal.decreases-loop-n
 decreases-loop-n l = length l.list / 64 - l.s

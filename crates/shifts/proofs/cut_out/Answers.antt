@@ -11,8 +11,8 @@ returns-then-at-eq0 c =
     let b = 64 * a.place.segment in
     let closes = c.close_gap in record {
       index = λ ss ix at t.
-          shifted-first a.key ss a.list.now a.bounds.now a.table.now a.place ix at _ _ _ refl refl t c.requires.segment_bound.2 closes.ensures.0 _ c.take_one.ensures _ c.rebound.ensures;
-      cards = λ f z h. closed-cards f a.list.now h b (b + 64 - b) a.place.held a.place.at 0 0 z closes.ensures.0 closes.ensures.1;
+          shifted-first a.key ss a.list.now a.bounds.now a.table.now a.place ix at _ _ _ refl refl t c.requires.segment_bound.2 closes.ensures.slots _ c.take_one.ensures _ c.rebound.ensures;
+      cards = λ f z h. closed-cards f a.list.now h b (b + 64 - b) a.place.held a.place.at 0 0 z closes.ensures.slots closes.ensures.cards;
     }
 
 pub returns : goal.returns
@@ -21,6 +21,6 @@ returns c =
     let b = 64 * a.place.segment in
     let closes = c.close_gap in record {
       index = λ ss ix at t.
-          shifted-out a.key ss a.list.now a.bounds.now a.table.now a.place ix at _ _ _ refl refl t c.requires.segment_bound.2 closes.ensures.0 _ c.take_one.ensures c.if-at-eq0.false;
-      cards = λ f z h. closed-cards f a.list.now h b (b + 64 - b) a.place.held a.place.at 0 0 z closes.ensures.0 closes.ensures.1;
+          shifted-out a.key ss a.list.now a.bounds.now a.table.now a.place ix at _ _ _ refl refl t c.requires.segment_bound.2 closes.ensures.slots _ c.take_one.ensures c.if-at-eq0.false;
+      cards = λ f z h. closed-cards f a.list.now h b (b + 64 - b) a.place.held a.place.at 0 0 z closes.ensures.slots closes.ensures.cards;
     }

@@ -40,8 +40,8 @@ returns-then-grows c =
     let grows = c.if-grows.true in
     let spreads = c.spread_in.ensures in
     record {
-      keys = put_in (given (goal.at.returns-then-grows c).Start) (packed (goal.at.returns-then-grows c).After-pack-m) grows spreads.0;
-      cards = λ f z y h. spreads.1 f z (y grows) (c.pack-m.ensures.cards f h);
+      keys = put_in (given (goal.at.returns-then-grows c).Start) (packed (goal.at.returns-then-grows c).After-pack-m) grows spreads.keys;
+      cards = λ f z y h. spreads.cards f z (y grows) (c.pack-m.ensures.cards f h);
     }
 
 pub close_gap-requires : goal.close_gap-requires
@@ -69,6 +69,6 @@ pub returns : goal.returns
 returns c =
     let closes = c.close_gap.ensures in
     let spreads = c.spread.ensures in record {
-      keys = taken_out (given (goal.at.returns c).Start) (packed (goal.at.returns c).After-pack-m) c.if-grows.false closes.0 spreads.0;
-      cards = λ f z y h. spreads.1 f z (closed-kept f _ (c.pack-m.ensures.cards f h) c.pack-m.result c.args.p 0 0 z closes.0 closes.1);
+      keys = taken_out (given (goal.at.returns c).Start) (packed (goal.at.returns c).After-pack-m) c.if-grows.false closes.slots spreads.keys;
+      cards = λ f z y h. spreads.cards f z (closed-kept f _ (c.pack-m.ensures.cards f h) c.pack-m.result c.args.p 0 0 z closes.slots closes.cards);
     }

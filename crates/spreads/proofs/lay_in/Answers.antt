@@ -10,8 +10,8 @@ pub returns-then-p-at : goal.returns-then-p-at
 returns-then-p-at c =
     let a = c.args in
     let moves = c.move_right.ensures in record {
-      keys = lay-after a.key a.window.now a.at a.to a.c a.p (omega arith) moves.0;
-      cards = λ f k h. moved-kept f a.window.now h (a.at - 1) a.to a.c moves.0 moves.1;
+      keys = lay-after a.key a.window.now a.at a.to a.c a.p (omega arith) moves.slots;
+      cards = λ f k h. moved-kept f a.window.now h (a.at - 1) a.to a.c moves.slots moves.cards;
     }
 
 pub move_right-requires-then-x-c-2 : goal.move_right-requires-then-x-c-2
@@ -30,16 +30,16 @@ returns-then-x-c c =
     let between = c.move_right-then-x-c.new.part in
     let after = c.move_right-then-x-c.ensures in
     let before = c.move_right-then-x-c-2.ensures in record {
-      keys = lay-with a.key a.window.now a.at a.to a.c a.p (omega arith) (omega arith) (omega arith) (omega arith) between after.0 before.0;
+      keys = lay-with a.key a.window.now a.at a.to a.c a.p (omega arith) (omega arith) (omega arith) (omega arith) between after.slots before.slots;
       cards = λ f k h.
-          moved-kept f _ (set-kept f between (moved-kept f a.window.now h a.p (a.to + x + 1) (a.c - 1 - x) after.0 after.1) (a.to + x) a.key a.card k)
-          a.at a.to x before.0 before.1;
+          moved-kept f _ (set-kept f between (moved-kept f a.window.now h a.p (a.to + x + 1) (a.c - 1 - x) after.slots after.cards) (a.to + x) a.key a.card k)
+          a.at a.to x before.slots before.cards;
     }
 
 pub returns : goal.returns
 returns c =
     let a = c.args in
     let moves = c.move_right-2.ensures in record {
-      keys = lay-before a.key a.window.now a.at a.to a.c a.p (omega arith) (omega arith) moves.0;
-      cards = λ f k h. moved-kept f a.window.now h a.at a.to a.c moves.0 moves.1;
+      keys = lay-before a.key a.window.now a.at a.to a.c a.p (omega arith) (omega arith) moves.slots;
+      cards = λ f k h. moved-kept f a.window.now h a.at a.to a.c moves.slots moves.cards;
     }

@@ -42,8 +42,8 @@ loop-s-preserved c =
       gather-length-suc cs l loop.s loop.at h small c.requires.window_len inv.3,
       omega arith,
       omega arith,
-      pack-step cs l loop.window _ loop.s loop.at h inv.1 inv.3 inv.6 moves.0,
-      λ f k. moved-kept f loop.window (inv.7 f k) (64 * loop.s) loop.at (get_or cs loop.s 0) moves.0 moves.1,
+      pack-step cs l loop.window _ loop.s loop.at h inv.1 inv.3 inv.6 moves.slots,
+      λ f k. moved-kept f loop.window (inv.7 f k) (64 * loop.s) loop.at (get_or cs loop.s 0) moves.slots moves.cards,
     )
 
 pub returns : goal.returns

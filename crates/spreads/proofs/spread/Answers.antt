@@ -52,10 +52,10 @@ loop-s-preserved c =
       omega arith,
       omega arith,
       omega arith,
-      laid_out 0 cs c.args.window.now loop.window _ _ c.args.m loop.s loop.at h inv.0 c.requires.window_len c.requires.by_index inv.1 inv.2 inv.5 inv.6 moves.0 clears.0,
+      laid_out 0 cs c.args.window.now loop.window _ _ c.args.m loop.s loop.at h inv.0 c.requires.window_len c.requires.by_index inv.1 inv.2 inv.5 inv.6 moves.slots clears.slots,
       λ f z k.
-          cleared-kept f _ (moved-kept f loop.window (inv.7 f z k) (loop.at - get_or cs t 0) (64 * t) (get_or cs t 0) moves.0 moves.1)
-          (64 * t + get_or cs t 0) (64 * t + 64) 0 0 z clears.0 clears.1,
+          cleared-kept f _ (moved-kept f loop.window (inv.7 f z k) (loop.at - get_or cs t 0) (64 * t) (get_or cs t 0) moves.slots moves.cards)
+          (64 * t + get_or cs t 0) (64 * t + 64) 0 0 z clears.slots clears.cards,
     )
 
 pub returns : goal.returns

@@ -58,8 +58,8 @@ loop-s-preserved c =
       omega arith,
       laid_in a.key 0 cs a.window.now loop.window _ _ a.m a.p loop.s loop.at
           (record { some = h; up_to = inv.0; long = c.requires.window_len; fits = c.requires.by_index; sum = inv.1; held = inv.2; room = inv.5; among = c.requires.counts_value.1 }) inv.6
-          lays.0 clears.0,
-      λ f z k e. cleared-kept f _ (lays.1 f k (inv.7 f z k e)) (64 * t + get_or cs t 0) (64 * t + 64) 0 0 z clears.0 clears.1,
+          lays.keys clears.slots,
+      λ f z k e. cleared-kept f _ (lays.cards f k (inv.7 f z k e)) (64 * t + get_or cs t 0) (64 * t + 64) 0 0 z clears.slots clears.cards,
     )
 
 pub returns : goal.returns

@@ -8,4 +8,4 @@ returns c =
     let found = c.lookup-found in
     let told = c.lookup_told-told in
     let tell = c.tell_three in
-    lookup-given c.args.profile (lend c.args.list.now c.args.cards.now c.args.table.now) c.args.key c.args.reply.now c.requires found.result told.result tell.result _ found.ensures told.ensures tell.ensures.0 tell.ensures.1
+    lookup-given c.args.profile (lend c.args.list.now c.args.cards.now c.args.table.now) c.args.key c.args.reply.now c.requires found.result told.result tell.result _ found.ensures told.ensures tell.ensures.number tell.ensures.words

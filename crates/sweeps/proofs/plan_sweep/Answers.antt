@@ -121,6 +121,6 @@ returns c =
     let size = p.power.ensures.0 in
     let done = c.plan_window.ensures in record {
       range = search rules;
-      plan = λ F bounds A N. plan-back A s.pre.1.0 size refl N c.front_weight-front.ensures (weights (goal.at.returns c).After-front_weight-front) _ _ c.whole-part.ensures (done.0 ∙ buffer s p.power.ensures.1)
-          (done.1 (shares_at s.args.shape) (ws (goal.at.returns c).After-front_weight-front) (planned A s.pre.1.0 _ size).level A.stands.shape.rows (whole d A N));
+      plan = λ F bounds A N. plan-back A s.pre.1.0 size refl N c.front_weight-front.ensures (weights (goal.at.returns c).After-front_weight-front) _ _ c.whole-part.ensures (done.range ∙ buffer s p.power.ensures.1)
+          (done.counts (shares_at s.args.shape) (ws (goal.at.returns c).After-front_weight-front) (planned A s.pre.1.0 _ size).level A.stands.shape.rows (whole d A N));
     }

@@ -112,7 +112,7 @@ slice_bounds-sow-end-4 c = sym (plan-few (goal.at.slice_bounds-sow-end-4 c).Afte
 pub sow-requires : goal.sow-requires
 sow-requires c =
     let keys = c.keys_in in record {
-      planted = planted (given (goal.at.sow-requires c).After-power-n) (swept (goal.at.sow-requires c).After-power-n) c.power-n.result (first (goal.at.sow-requires c).After-power-n) c.power-n.ensures.0 refl c.args.plan.now c.requires.acting.3 keys.result keys.ensures.1 c.power-n.ensures.1;
+      planted = planted (given (goal.at.sow-requires c).After-power-n) (swept (goal.at.sow-requires c).After-power-n) c.power-n.result (first (goal.at.sow-requires c).After-power-n) c.power-n.ensures.0 refl c.args.plan.now c.requires.acting.3 keys.result keys.ensures.sum c.power-n.ensures.1;
       cards_len = cards-lent (goal.at.sow-requires c).After-power-n;
     }
 
@@ -130,7 +130,7 @@ overflow_add-first-2 c = omega (arith, ending (goal.at.overflow_add-first-2 c).A
 pub rebound-requires : goal.rebound-requires
 rebound-requires c =
     let sows = c.sow in
-    let l : length (put_mid (begin (goal.at.rebound-requires c).After-power-n) (many (goal.at.rebound-requires c).After-power-n) c.args.list.now sows.new.0) ≡ length c.args.list.now = same_len_mid (begin (goal.at.rebound-requires c).After-power-n) (many (goal.at.rebound-requires c).After-power-n) c.args.list.now sows.new.0 sows.auto.0 in
+    let l : length (put_mid (begin (goal.at.rebound-requires c).After-power-n) (many (goal.at.rebound-requires c).After-power-n) c.args.list.now sows.new.window) ≡ length c.args.list.now = same_len_mid (begin (goal.at.rebound-requires c).After-power-n) (many (goal.at.rebound-requires c).After-power-n) c.args.list.now sows.new.window sows.auto.window in
     (omega (arith, c.power-n.ensures), ending (goal.at.rebound-requires c).After-power-n, omega (arith, l, within (goal.at.rebound-requires c).After-power-n), (given (goal.at.rebound-requires c).After-power-n).index.bound.long)
 
 pub returns : goal.returns
@@ -138,6 +138,6 @@ returns c =
     let sows = c.sow in
     let counts = c.recount in
     let bounds = c.rebound in record {
-      left = λ F shape A P. swept-left A (swept (goal.at.returns c).After-power-n) c.power-n.result (first (goal.at.returns c).After-power-n) c.power-n.ensures.0 refl c.args.plan.now P sows.new.0 sows.ensures.0 bounds.new.1.0 counts.new.0 counts.ensures bounds.ensures;
-      cards = λ f z y h. back-kept f c.args.list.now h (begin (goal.at.returns c).After-power-n) (many (goal.at.returns c).After-power-n) sows.new.0 (sows.ensures.1 f z y (part-kept f c.args.list.now h (begin (goal.at.returns c).After-power-n) (many (goal.at.returns c).After-power-n)));
+      left = λ F shape A P. swept-left A (swept (goal.at.returns c).After-power-n) c.power-n.result (first (goal.at.returns c).After-power-n) c.power-n.ensures.0 refl c.args.plan.now P sows.new.window sows.ensures.keys bounds.new.bounds counts.new.table counts.ensures bounds.ensures;
+      cards = λ f z y h. back-kept f c.args.list.now h (begin (goal.at.returns c).After-power-n) (many (goal.at.returns c).After-power-n) sows.new.window (sows.ensures.cards f z y (part-kept f c.args.list.now h (begin (goal.at.returns c).After-power-n) (many (goal.at.returns c).After-power-n)));
     }

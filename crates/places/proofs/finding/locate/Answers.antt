@@ -12,9 +12,9 @@ returns-then-at-held c =
     let seg = c.find_segment-segment in
     let cnt = c.count_keys-held in
     let pos = c.position-at in
-    let few : cnt.result ≤ 64 = omega (arith, simp (length-take, length-drop) at cnt.ensures.0) in record {
-      range = (seg.ensures.0, pos.ensures.0, few);
-      place = λ ss sh. located-slot a.list.now a.key seg.result cnt.result pos.result seg.ensures.0 cnt.ensures.1 pos.ensures.1 seg.ensures.1 ss sh c.if-at-held.true;
+    let few : cnt.result ≤ 64 = omega (arith, simp (length-take, length-drop) at cnt.ensures.range) in record {
+      range = (seg.ensures.range, pos.ensures.range, few);
+      place = λ ss sh. located-slot a.list.now a.key seg.result cnt.result pos.result seg.ensures.range cnt.ensures.keys pos.ensures.place seg.ensures.place ss sh c.if-at-held.true;
     }
 
 pub returns-else-at-held : goal.returns-else-at-held
@@ -23,7 +23,7 @@ returns-else-at-held c =
     let seg = c.find_segment-segment in
     let cnt = c.count_keys-held in
     let pos = c.position-at in
-    let few : cnt.result ≤ 64 = omega (arith, simp (length-take, length-drop) at cnt.ensures.0) in record {
-      range = (seg.ensures.0, pos.ensures.0, few);
-      place = λ ss sh. located-past a.list.now a.key seg.result cnt.result pos.result seg.ensures.0 cnt.ensures.1 pos.ensures.1 seg.ensures.1 ss sh c.if-at-held.false;
+    let few : cnt.result ≤ 64 = omega (arith, simp (length-take, length-drop) at cnt.ensures.range) in record {
+      range = (seg.ensures.range, pos.ensures.range, few);
+      place = λ ss sh. located-past a.list.now a.key seg.result cnt.result pos.result seg.ensures.range cnt.ensures.keys pos.ensures.place seg.ensures.place ss sh c.if-at-held.false;
     }

@@ -54,7 +54,7 @@ returns c =
     let f = first-is (goal.at.returns c).After-smaller-last in
     let l = c.smaller-last.ensures in
     let r = c.scan.ensures in record {
-      range = scan-ranged (half (goal.at.returns c).Start) (low (goal.at.returns c).Start) (high (goal.at.returns c).Start) (m (goal.at.returns c).Start) c.requires.splits c.scan.result (rw f at r.0.0) (rw l at r.0.1);
+      range = scan-ranged (half (goal.at.returns c).Start) (low (goal.at.returns c).Start) (high (goal.at.returns c).Start) (m (goal.at.returns c).Start) c.requires.splits c.scan.result (rw f at r.range.0) (rw l at r.range.1);
       share = λ S k ws a b e d. scan-is (half (goal.at.returns c).Start) (low (goal.at.returns c).Start) (high (goal.at.returns c).Start) (m (goal.at.returns c).Start) S k c.args.part.front (weights_in ws c.args.part) (length-in ws c.args.at.now c.args.weights.now c.args.part d) c.scan.result _ _ (record { from = f; to = l; size = a; least-is = b; most-is = e })
-          (λ z. c.if-part-eq0.left (d.all ∙ z)) (r.1 ws d);
+          (λ z. c.if-part-eq0.left (d.all ∙ z)) (r.share ws d);
     }

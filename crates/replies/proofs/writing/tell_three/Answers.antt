@@ -14,6 +14,6 @@ pub returns : goal.returns
 returns c =
     let two = c.tell_two-number in
     record {
-      number = two.ensures.0;
-      words = ap (λ (ws : List ℕ). set ws 2 c.args.told.third) two.ensures.1 ∙ over-three c.args.reply.now _ _ c.args.told.third c.requires;
+      number = two.ensures.number;
+      words = ap (λ (ws : List ℕ). set ws 2 c.args.told.third) two.ensures.words ∙ over-three c.args.reply.now _ _ c.args.told.third c.requires;
     }

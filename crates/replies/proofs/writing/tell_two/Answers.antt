@@ -14,6 +14,6 @@ pub returns : goal.returns
 returns c =
     let first = c.tell_one-number in
     record {
-      number = first.ensures.0;
-      words = ap (λ (ws : List ℕ). set ws 1 c.args.told.second) first.ensures.1 ∙ over-two c.args.reply.now _ c.args.told.second c.requires;
+      number = first.ensures.number;
+      words = ap (λ (ws : List ℕ). set ws 1 c.args.told.second) first.ensures.words ∙ over-two c.args.reply.now _ c.args.told.second c.requires;
     }

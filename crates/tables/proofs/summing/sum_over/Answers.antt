@@ -26,8 +26,8 @@ loop-z-preserved c =
     let a = c.args in
     let L = c.loop-z in
     let f = c.sum_level in
-    let r : Resummed a.n (a.n + L.a / 2) (a.n + L.z / 2) L.table f.new.0 = f.ensures in
-    (r.long ∙ L.invariant.0, omega arith, omega arith, rising-more a.n a.first a.last a.table.now L.table L.a L.z L.invariant.3 f.new.0 (omega arith) r)
+    let r : Resummed a.n (a.n + L.a / 2) (a.n + L.z / 2) L.table f.new.table = f.ensures in
+    (r.long ∙ L.invariant.0, omega arith, omega arith, rising-more a.n a.first a.last a.table.now L.table L.a L.z L.invariant.3 f.new.table (omega arith) r)
 
 pub returns : goal.returns
 returns c =

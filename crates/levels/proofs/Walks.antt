@@ -1,5 +1,5 @@
 -- The walk from a segment's entry to the root: which entries it meets, what they count, and what changing each of them does.
-use mathlib.Core.Path.{◌≡◌, refl, sym, ap, ap₂, ◌∙◌}
+use mathlib.Core.Path.{◌≡◌, refl, sym, ap, ap₂, subst, ◌∙◌}
 use mathlib.Core.List.{List, [], ◌∷◌, ◌++◌}
 use Prim.Native.Nat.{ℕ, zero, suc, ◌+◌, ◌-◌, ◌*◌, ◌/◌, ◌^◌, ◌≤◌, ◌<◌}
 use native.Mathlib.Nat.{pow-succ', pow-zero}
@@ -23,12 +23,15 @@ pub entry_in : (h s l : ℕ) → s < 2 ^ h → l ≤ h → entry_of (2 ^ h) s l 
 entry_in h s zero k p = omega (arith, pow_pos h)
 entry_in zero s (suc l) k p = absurd (omega arith)
 entry_in (suc h) s (suc l) k p =
-    rw (pow-succ' 2 h) (rw (entry-pair (2 ^ h) s l) (omega (arith, entry_in h (s / 2) l (omega (arith, pow-succ' 2 h)) (omega arith))))
+    subst (λ (n : ℕ). entry_of n s (suc l) + 1 < 2 * n) (sym (pow-succ' 2 h))
+    (subst (λ (e : ℕ). e + 1 < 2 * (2 * 2 ^ h)) (sym (entry-pair (2 ^ h) s l)) (omega (arith, entry_in h (s / 2) l (omega (arith, pow-succ' 2 h)) (omega arith))))
 
 -- and leaves it then
 pub entry-end : (h s : ℕ) → s < 2 ^ h → entry_of (2 ^ h) s (suc h) + 1 ≡ 2 * 2 ^ h
 entry-end zero s k = omega (arith, pow-zero 2)
-entry-end (suc h) s k = rw (pow-succ' 2 h) (rw (entry-pair (2 ^ h) s (suc h)) (omega (arith, entry-end h (s / 2) (omega (arith, pow-succ' 2 h)))))
+entry-end (suc h) s k =
+    subst (λ (n : ℕ). entry_of n s (suc (suc h)) + 1 ≡ 2 * n) (sym (pow-succ' 2 h))
+    (subst (λ (e : ℕ). e + 1 ≡ 2 * (2 * 2 ^ h)) (sym (entry-pair (2 ^ h) s (suc h))) (omega (arith, entry-end h (s / 2) (omega (arith, pow-succ' 2 h)))))
 
 -- the entry counts the window
 pub at-walk : (h l s : ℕ) (ns : List ℕ) → l ≤ h → s < 2 ^ h → length ns ≡ 2 ^ h → get_or (levels h ns) (entry_of (2 ^ h) s l) 0 ≡ total (window l s ns)

@@ -1,5 +1,5 @@
 -- A walk under way: the entries so far are changed, and those ahead are as they were.
-use mathlib.Core.Path.{◌≡◌, refl, sym, ap, ap₂, ◌∙◌}
+use mathlib.Core.Path.{◌≡◌, refl, sym, ap, ap₂, subst, ◌∙◌}
 use mathlib.Core.Logic.{◌≢◌}
 use mathlib.Core.List.{List}
 use Prim.Native.Nat.{ℕ, suc, ◌+◌, ◌*◌, ◌/◌, ◌^◌, ◌≤◌, ◌<◌}
@@ -31,7 +31,7 @@ module _ (f : ℕ → ℕ) (n s h : ℕ) (p : n ≡ 2 ^ h) (k : s < n) (t₀ : L
       elim (dec_lt h w.level) [
         | yes l ↦
             let d : w.level ≡ suc h = omega (arith, w.most) in
-            let m : entry_of n s (suc h) + 1 ≡ 2 * n = rw p (entry-end h s (rw p at k)) in
+            let m : entry_of n s (suc h) + 1 ≡ 2 * n = subst (λ (x : ℕ). entry_of x s (suc h) + 1 ≡ 2 * x) (sym p) (entry-end h s (rw p at k)) in
             absurd (omega (arith, w.entry ∙ ap (entry_of n s) d))
         | no l ↦ omega arith
       ]

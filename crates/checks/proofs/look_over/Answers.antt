@@ -27,13 +27,13 @@ use Rattle.checks.proofs.look_over.Goals as goal
 pub returns-then-not-is_profile : goal.returns-then-not-is_profile
 returns-then-not-is_profile c =
     let k = c.is_profile.ensures in record {
-      looked = λ table. looked-refused c.args.profile c.args.list.now UnknownProfile _ c.refuse.ensures _ (unknown-profile _ (lend c.args.list.now c.args.cards.now table) (sym k ∙ not-true _ c.if-not-is_profile.true));
+      looked = λ table. looked-refused c.args.profile c.args.list.now UnknownProfile _ c.refuse.ensures _ (unknown-profile _ (lend c.args.list.now c.args.cards.now table) (sym k ∙ c.if-not-is_profile.true));
       counts = counting-refused c.args.profile c.args.list.now UnknownProfile _ c.refuse.ensures _ c.requires;
     }
 
 -- the profile is known
 known : (c : goal.Else-not-is_profile) → is_profile c.args.profile ≡ true
-known c = sym c.is_profile.ensures ∙ not-false _ c.if-not-is_profile.false
+known c = sym c.is_profile.ensures ∙ c.if-not-is_profile.false
 
 pub returns-then-height-eq0 : goal.returns-then-height-eq0
 returns-then-height-eq0 c =
@@ -86,13 +86,13 @@ module _ (c : goal.After-is_kept) where
 pub returns-then-not-is_kept : goal.returns-then-not-is_kept
 returns-then-not-is_kept c =
     record {
-      looked = λ table. looked-refused (profile (goal.at.returns-then-not-is_kept c).After-is_kept) (list (goal.at.returns-then-not-is_kept c).After-is_kept) WrongOrder _ c.refuse-then-not-is_kept.ensures _ (wrong-order (profile (goal.at.returns-then-not-is_kept c).After-is_kept) (lent (goal.at.returns-then-not-is_kept c).After-is_kept table) (named (goal.at.returns-then-not-is_kept c).After-is_kept) (high (goal.at.returns-then-not-is_kept c).After-is_kept) (long (goal.at.returns-then-not-is_kept c).After-is_kept) (order (goal.at.returns-then-not-is_kept c).After-is_kept ∙ not-true _ c.if-not-is_kept.true));
+      looked = λ table. looked-refused (profile (goal.at.returns-then-not-is_kept c).After-is_kept) (list (goal.at.returns-then-not-is_kept c).After-is_kept) WrongOrder _ c.refuse-then-not-is_kept.ensures _ (wrong-order (profile (goal.at.returns-then-not-is_kept c).After-is_kept) (lent (goal.at.returns-then-not-is_kept c).After-is_kept table) (named (goal.at.returns-then-not-is_kept c).After-is_kept) (high (goal.at.returns-then-not-is_kept c).After-is_kept) (long (goal.at.returns-then-not-is_kept c).After-is_kept) (order (goal.at.returns-then-not-is_kept c).After-is_kept ∙ c.if-not-is_kept.true));
       counts = counting-refused (profile (goal.at.returns-then-not-is_kept c).After-is_kept) (list (goal.at.returns-then-not-is_kept c).After-is_kept) WrongOrder _ c.refuse-then-not-is_kept.ensures _ ((tallied (goal.at.returns-then-not-is_kept c).After-is_kept).long ∙ c.requires);
     }
 
 -- the order is kept
 kept : (c : goal.Else-not-is_kept) → is_kept (order_of (list c.before)) ≡ true
-kept c = order c.before ∙ not-false _ c.if-not-is_kept.false
+kept c = order c.before ∙ c.if-not-is_kept.false
 
 pub stray-requires : goal.stray-requires
 stray-requires c =

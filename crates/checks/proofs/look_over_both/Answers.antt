@@ -75,7 +75,7 @@ pub returns-then-not-is_sound : goal.returns-then-not-is_sound
 returns-then-not-is_sound c =
     record {
       looked = λ table. looked-refused (profile (goal.at.returns-then-not-is_sound c).After-shape-1) (list (goal.at.returns-then-not-is_sound c).After-shape-1) WrongForecast _ c.refuse.ensures _
-          (forecast-wrong _ (profile (goal.at.returns-then-not-is_sound c).After-shape-1) (list (goal.at.returns-then-not-is_sound c).After-shape-1) (told (goal.at.returns-then-not-is_sound c).After-fault_of-fault) (passes (goal.at.returns-then-not-is_sound c).After-shape-1 table) (sym (ap is_sound (fault-is (goal.at.returns-then-not-is_sound c).After-fault_of-fault)) ∙ sym c.is_sound.ensures ∙ not-true _ c.if-not-is_sound.true));
+          (forecast-wrong _ (profile (goal.at.returns-then-not-is_sound c).After-shape-1) (list (goal.at.returns-then-not-is_sound c).After-shape-1) (told (goal.at.returns-then-not-is_sound c).After-fault_of-fault) (passes (goal.at.returns-then-not-is_sound c).After-shape-1 table) (sym (ap is_sound (fault-is (goal.at.returns-then-not-is_sound c).After-fault_of-fault)) ∙ sym c.is_sound.ensures ∙ c.if-not-is_sound.true));
       counts = counting-refused (profile (goal.at.returns-then-not-is_sound c).After-shape-1) (list (goal.at.returns-then-not-is_sound c).After-shape-1) WrongForecast _ c.refuse.ensures _ (counting (goal.at.returns-then-not-is_sound c).After-shape-1).long;
     }
 
@@ -83,7 +83,7 @@ pub returns : goal.returns
 returns c =
     record {
       looked = λ table. renumbered _
-          (passes (goal.at.returns c).After-shape-1 table ∙ sym (forecast-passes _ (profile (goal.at.returns c).After-shape-1) (list (goal.at.returns c).After-shape-1) (told (goal.at.returns c).After-fault_of-fault) (passes (goal.at.returns c).After-shape-1 table) (sym (ap is_sound (fault-is (goal.at.returns c).After-fault_of-fault)) ∙ sym c.is_sound.ensures ∙ not-false _ c.if-not-is_sound.false)))
+          (passes (goal.at.returns c).After-shape-1 table ∙ sym (forecast-passes _ (profile (goal.at.returns c).After-shape-1) (list (goal.at.returns c).After-shape-1) (told (goal.at.returns c).After-fault_of-fault) (passes (goal.at.returns c).After-shape-1 table) (sym (ap is_sound (fault-is (goal.at.returns c).After-fault_of-fault)) ∙ sym c.is_sound.ensures ∙ c.if-not-is_sound.false)))
           (looked (goal.at.returns c).After-shape-1 table);
       counts = counting (goal.at.returns c).After-shape-1;
     }

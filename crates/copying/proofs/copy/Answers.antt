@@ -25,7 +25,7 @@ loop-i-preserved c =
       omega arith,
       laid_on a.output.now a.list.now _ loop.output _ a.a a.w loop.i 4 loop.i (omega arith) (omega arith) (omega arith) (omega arith)
           c.read_four.ensures loop.invariant.4 c.put_four.ensures,
-      laid_on a.output_cards.now a.cards.now _ loop.output-cards _ a.a a.w loop.i 4 loop.i (omega arith) (omega arith) (omega arith) (omega arith)
+      laid_on a.output_cards.now a.cards.now _ loop.output_cards _ a.a a.w loop.i 4 loop.i (omega arith) (omega arith) (omega arith) (omega arith)
           c.read_cards.ensures loop.invariant.5 c.put_cards.ensures,
     )
 
@@ -38,7 +38,7 @@ returns c =
       slots = laid_on a.output.now a.list.now _ loop.output _ a.a a.w e 4 loop.i (omega arith) (omega arith) (omega arith) (omega arith)
           c.read_four-2.ensures loop.invariant.4 c.put_four-2.ensures
           ∙ ap (λ (n : ℕ). paste a.output.now a.w (drop a.a a.list.now) n) q;
-      cards = laid_on a.output_cards.now a.cards.now _ loop.output-cards _ a.a a.w e 4 loop.i (omega arith) (omega arith) (omega arith) (omega arith)
+      cards = laid_on a.output_cards.now a.cards.now _ loop.output_cards _ a.a a.w e 4 loop.i (omega arith) (omega arith) (omega arith) (omega arith)
           c.read_cards-2.ensures loop.invariant.5 c.put_cards-2.ensures
           ∙ ap (λ (n : ℕ). paste a.output_cards.now a.w (drop a.a a.cards.now) n) q;
     }

@@ -34,7 +34,7 @@ returns-then-not-is_sound c ss sh l =
     let o = roomy-cell c.args.t1 (roomy (goal.at.returns-then-not-is_sound c).Start) c.loop-i.i (omega arith) _ _ c.wide.ensures c.wide-in-loop-i.ensures in
     let e = c.fault_at-fault.ensures c.args.t1 ss o sh in
     e
-    ∙ sym (fault-first _ ss _ c.if-p-used.false c.loop-i.i (omega (arith, roomy-12 c.args.t1 (roomy (goal.at.returns-then-not-is_sound c).Start))) (c.loop-i.invariant.1 ss sh) (sym (ap is_sound e) ∙ sym c.is_sound.ensures ∙ not-true _ c.if-not-is_sound.true))
+    ∙ sym (fault-first _ ss _ c.if-p-used.false c.loop-i.i (omega (arith, roomy-12 c.args.t1 (roomy (goal.at.returns-then-not-is_sound c).Start))) (c.loop-i.invariant.1 ss sh) (sym (ap is_sound e) ∙ sym c.is_sound.ensures ∙ c.if-not-is_sound.true))
 
 pub loop-i-preserved : goal.loop-i-preserved
 loop-i-preserved c =
@@ -43,7 +43,7 @@ loop-i-preserved c =
       λ ss sh j h.
           let h' : j ≤ c.loop-i.i = omega arith in
           elim (eq-or-lt_of_le h') [
-            | inl q ↦ ap (λ (k : ℕ). is_sound (fault_at c.args.p ss c.args.t1 k)) q ∙ sym (ap is_sound (c.fault_at-fault.ensures c.args.t1 ss o sh)) ∙ sym c.is_sound.ensures ∙ not-false _ c.if-not-is_sound.false
+            | inl q ↦ ap (λ (k : ℕ). is_sound (fault_at c.args.p ss c.args.t1 k)) q ∙ sym (ap is_sound (c.fault_at-fault.ensures c.args.t1 ss o sh)) ∙ sym c.is_sound.ensures ∙ c.if-not-is_sound.false
             | inr q ↦ c.loop-i.invariant.1 ss sh j q
           ],
     )

@@ -45,11 +45,11 @@ size n h =
     ]
 
 pub returns-then-not-is_profile : goal.returns-then-not-is_profile
-returns-then-not-is_profile c = admits _ _ _ _ _ c.told.ensures (make-unknown _ _ (sym c.is_profile.ensures ∙ not-true _ c.if-not-is_profile.true))
+returns-then-not-is_profile c = admits _ _ _ _ _ c.told.ensures (make-unknown _ _ (sym c.is_profile.ensures ∙ c.if-not-is_profile.true))
 
 -- the profile is known
 known : (c : goal.Else-not-is_profile) → is_profile c.args.profile ≡ true
-known c = sym c.is_profile.ensures ∙ not-false _ c.if-not-is_profile.false
+known c = sym c.is_profile.ensures ∙ c.if-not-is_profile.false
 
 pub returns-then-height_of-eq0 : goal.returns-then-height_of-eq0
 returns-then-height_of-eq0 c = admits _ _ _ _ _ c.told-then-height_of-eq0.ensures (make-refused _ _ (known (goal.at.returns-then-height_of-eq0 c).Else-not-is_profile) (sym c.height_of.ensures.0 ∙ c.if-height_of-eq0.true))

@@ -16,8 +16,8 @@ use Rattle.scans.proofs.write_keys.Goals as goal
 
 -- the counts are those of the segments
 -- a segment of the list has 64 keys at most
-few : (c : tie.Start invariant-loop decreases-loop) (k : ℕ) → 64 * k + 64 ≤ length c.args.list.now → get_or c.args.counts.now k 0 ≤ 64
-few c k h = c.requires.0.3 k (omega arith)
+few : (c : goal.Start) (k : ℕ) → 64 * k + 64 ≤ length c.args.list.now → get_or c.args.counts.now k 0 ≤ 64
+few c k h = c.requires.first_in_bounds.3 k (omega arith)
 
 -- the keys begin with a stretch of the first segment, and go on with those of the next
 module _ (c : goal.Start) where
@@ -52,20 +52,20 @@ module _ (c : goal.Start) where
     cards-go-on s h ss sh e = cards-stretch f slots k (keys (drop s ss)) (keys (drop (s + 1) ss)) (get_or counts s 0) (64 * s) (goes_on s h ss sh e)
 
 pub overflow_add-a : goal.overflow_add-a
-overflow_add-a c = omega (arith, few z c.args.first c.requires.first_in_bounds.0)
+overflow_add-a c = omega (arith, few (goal.at.overflow_add-a c).Start c.args.first c.requires.first_in_bounds.0)
 
 pub loop-n-init : goal.loop-n-init
 loop-n-init c =
     let a = c.args in
     let h = c.requires.first_in_bounds in
-    let f = few z a.first h.0 in (
+    let f = few (goal.at.loop-n-init c).Start a.first h.0 in (
       omega arith,
       refl,
       refl,
       omega (arith, f),
       omega arith,
       λ ss sh e. halfway-none _ _ _ _ (begins (goal.at.loop-n-init c).Start ss sh e),
-      λ f ss sh e k. halfway-none _ _ _ _ (cards-begin z f k ss sh e),
+      λ f ss sh e k. halfway-none _ _ _ _ (cards-begin (goal.at.loop-n-init c).Start f k ss sh e),
     )
 
 pub copy-requires : goal.copy-requires
@@ -122,7 +122,7 @@ loop-n-preserved c =
     let copies = c.copy-in-loop-n.ensures in
     let list : List ℕ = a.list.now in
     let h : 64 * l.s + 64 ≤ length list = omega arith in
-    let f = few z l.s h in (
+    let f = few (goal.at.loop-n-preserved c).Start l.s h in (
       omega arith,
       omega arith,
       omega arith,
@@ -137,5 +137,5 @@ loop-n-preserved c =
           halfway-later
           (halfway-more (map f (keys_from a.first a.at ss)) a.output_cards.now l.output-cards (map f (keys (drop l.s ss))) (drop l.a a.cards.now) l.w l.n (l.invariant.6 f ss sh e k)
           (simp length-drop (omega arith)) _ copies.cards)
-          _ _ (cards-go-on z f k l.s h ss sh e),
+          _ _ (cards-go-on (goal.at.loop-n-preserved c).Start f k l.s h ss sh e),
     )

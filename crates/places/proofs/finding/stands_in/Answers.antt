@@ -1,5 +1,4 @@
 -- `places::finding::stands_in` meets its contract. The loop's invariant: what is left to look at stays within the segment's slots.
-use mathlib.Core.Logic.{⊎_elim}
 use Prim.Native.Nat.{◌+◌, ◌*◌}
 use native.Mathlib.Omega.{arith}
 use lib.Dec.{eqb→eq}
@@ -7,9 +6,6 @@ use Rattle.places.proofs.finding.stands_in.Goals as goal
 
 pub returns-then-list-segment : goal.returns-then-list-segment
 returns-then-list-segment c t = absurd t
-
-pub loop-step-preserved : goal.loop-step-preserved
-loop-step-preserved c = ⊎_elim (λ w. omega arith) (λ w. omega arith) c.if-x-ne0.branch
 
 pub returns : goal.returns
 returns c t =

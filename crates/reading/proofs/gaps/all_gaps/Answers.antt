@@ -20,7 +20,7 @@ loop-j-preserved c =
     let s = c.args in
     let l = c.loop-j in
     let r = c.sixteen_gaps in
-    let more = r.ensures (rw (not-false r.result c.if-not-sixteen_gaps.false) tt) in
+    let more = r.ensures (rw c.if-not-sixteen_gaps.false tt) in
     (omega arith, omega arith, bare-join s.list.now (l.j - 16) l.j s.e (λ k h m. more.gaps k h (omega arith)) l.invariant.2)
 
 pub returns : goal.returns

@@ -21,6 +21,7 @@ use Rattle.checks.proofs.Tabling.{renumbered, cards-list}
 use Rattle.checks.specs.declared.Listing.{Listing}
 use Rattle.checks.specs.Listings.{ListLooked, Counting}
 use Rattle.checks.proofs.look_over_both.Goals as goal
+use Rattle.checks.proofs.look_over_both.Goals.{After-fault_of-fault, After-shape-1}
 
 pub returns-in-Refused : goal.returns-in-Refused
 returns-in-Refused c =
@@ -31,7 +32,7 @@ returns-in-Refused c =
     }
 
 -- the list and its cards pass
-module _ (c : goal.After-shape-1) where
+module _ (c : After-shape-1) where
   abbrev profile : ℕ
   profile = c.args.profile
 
@@ -60,7 +61,7 @@ module _ (c : goal.After-shape-1) where
   list-passes = cards-list profile (lent []) (passes [])
 
 -- the fault that is found is the rules'
-module _ (c : goal.After-fault_of-fault) where
+module _ (c : After-fault_of-fault) where
   abbrev told : Forecast
   told = c.args.forecast
 

@@ -13,6 +13,7 @@ use Rattle.aims.specs.Aims.{Stands}
 use Rattle.aims.proofs.Standing.{small-stands}
 use Rattle.opening.proofs.Ready.{ready-passes, ready-stands, ready-ends, ready-index, ready-cards}
 use Rattle.opening.proofs.work_lent.Goals as goal
+use Rattle.opening.proofs.work_lent.Goals.{After-shape-1}
 
 pub returns-in-Refused : goal.returns-in-Refused
 returns-in-Refused c =
@@ -24,7 +25,7 @@ returns-in-Refused c =
     }
 
 -- the check accepts
-module _ (c : goal.After-shape-1) where
+module _ (c : After-shape-1) where
   abbrev number : ℕ
   number = c.args.profile
 

@@ -4,9 +4,10 @@ use mathlib.Core.Logic.{inl, inr}
 use native.Mathlib.Omega.{arith}
 use Rattle.records.proofs.RecordBytes.{kind_of, one-record}
 use Rattle.records.proofs.bytes_of.Goals as goal
+use Rattle.records.proofs.bytes_of.Goals.{Joined-grows}
 
 -- where the two arms meet
-kind-is : (j : goal.Joined-grows) → j.if-grows.kind ≡ kind_of j.args.grows
+kind-is : (j : Joined-grows) → j.if-grows.kind ≡ kind_of j.args.grows
 kind-is j =
     elim j.if-grows.branch [
       | inl t ↦ t.1 ∙ sym (ap kind_of t.0.taken)

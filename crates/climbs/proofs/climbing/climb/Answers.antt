@@ -16,9 +16,10 @@ use Rattle.levels.proofs.Tables.{length-table}
 use Rattle.shares.specs.Rows.{shares_at}
 use Rattle.climbs.proofs.Grown.{way_in, way-few, way-least, way-count, tried-more, climbed-here, climbed-none}
 use Rattle.climbs.proofs.climbing.climb.Goals as goal
+use Rattle.climbs.proofs.climbing.climb.Goals.{Else-h-level}
 
 -- the next window: its size, and its entry
-module _ (c : goal.Else-h-level) where
+module _ (c : Else-h-level) where
   abbrev h : ℕ
   h = c.args.shape.height
 

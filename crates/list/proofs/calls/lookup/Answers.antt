@@ -12,6 +12,7 @@ use Rattle.rules.specs.Calls.{lookup}
 use Rattle.checks.proofs.Numbers.{refused-some}
 use Rattle.demands.proofs.Refusals.CheckCases.{lookup-refused}
 use Rattle.list.proofs.calls.lookup.Goals as goal
+use Rattle.list.proofs.calls.lookup.Goals.{In_default}
 
 -- where the check refuses, a lookup tells the number
 refused-told : (profile : ℕ) (L : Lent) (y : ℕ) (v : Verdict) (x : Refusal) → verdict_number v ≡ check_read profile L → v ≡ Refused x → not_found (refusal_number x) ≡ lookup profile L y
@@ -21,7 +22,7 @@ pub returns-in-Refused : goal.returns-in-Refused
 returns-in-Refused c = record { answer = refused-told _ _ _ _ _ c.look_read-verdict.ensures.number c.verdict-1.given.1 }
 
 -- where the check accepts, list, cards and table pass in their profile
-passes : (c : goal.In_default) → let a = c.args in check_read a.profile (lend a.list.now a.cards.now a.table.now) ≡ 0
+passes : (c : In_default) → let a = c.args in check_read a.profile (lend a.list.now a.cards.now a.table.now) ≡ 0
 passes c = sym c.look_read-verdict.ensures.number ∙ ap verdict_number c.enum_told-1.given.1
 
 pub look_up-requires : goal.look_up-requires

@@ -7,8 +7,9 @@ use Rattle.stretches.specs.Parts.{weights_in}
 use Rattle.stretches.proofs.Parts.{length-in}
 use Rattle.planning.proofs.Ranges.{first, tops, tried, even-ranged, scan-ranged, even_is, scan-is}
 use Rattle.planning.proofs.splitting.split.Goals as goal
+use Rattle.planning.proofs.splitting.split.Goals.{After-smaller-last, Start}
 
-module _ (s : goal.Start) where
+module _ (s : Start) where
   abbrev half : ℕ
   half = s.args.half
 
@@ -22,7 +23,7 @@ module _ (s : goal.Start) where
   m = s.args.part.keys
 
 -- the bounds of the scan
-first-is : (c : goal.After-smaller-last) → c.larger-first.result ≡ first (half c.before.before.before.before.before.before.before) (low c.before.before.before.before.before.before.before) (high c.before.before.before.before.before.before.before) (m c.before.before.before.before.before.before.before)
+first-is : (c : After-smaller-last) → c.larger-first.result ≡ first (half c.before.before.before.before.before.before.before) (low c.before.before.before.before.before.before.before) (high c.before.before.before.before.before.before.before) (m c.before.before.before.before.before.before.before)
 first-is c = omega (arith, c.larger-first.ensures, c.over.ensures)
 
 pub overflow_add-result : goal.overflow_add-result

@@ -4,9 +4,10 @@ use Prim.Native.Nat.{ℕ, ◌-◌, max, min}
 use Rattle.stretches.specs.Tries.{Modest, tried_in, nearer_of, past_crossing, nearest_of}
 use Rattle.stretches.proofs.Looks.{nearer-modest, one-look, tried-in}
 use Rattle.stretches.proofs.crossing.nearest.Goals as goal
+use Rattle.stretches.proofs.crossing.nearest.Goals.{After-nearer-near}
 
 -- the two numbers looked at, and the first look
-module _ (c : goal.After-nearer-near) where
+module _ (c : After-nearer-near) where
   abbrev past : ℕ
   past = past_crossing c.args.s.left c.args.s.right c.args.c c.args.m
 

@@ -11,8 +11,9 @@ use Rattle.stretches.specs.Parts.{PartOf, PassedTo}
 use Rattle.stretches.proofs.NextMark.{next, next-in, next-hit, next_more, next_grows}
 use Rattle.stretches.proofs.Parts.{start, counted-one, marks-small, next-to, passed_is}
 use Rattle.stretches.proofs.passing.pass.Goals as goal
+use Rattle.stretches.proofs.passing.pass.Goals.{Start}
 
-module _ (s : goal.Start) where
+module _ (s : Start) where
   abbrev at : List ℕ
   at = s.args.at.now
 
@@ -79,7 +80,7 @@ bounds-at-next c = inside (goal.at.bounds-at-next c).Start _ c.loop-p-test.true
 
 pub returns-then-place-at : goal.returns-then-place-at
 returns-then-place-at c =
-    hit L.before.before.before.before c.loop-p.p c.loop-p.invariant (omega (arith, c.if-place-at.true))
+    hit (goal.at.returns-then-place-at c).Start c.loop-p.p c.loop-p.invariant (omega (arith, c.if-place-at.true))
 
 pub pass_one-p-requires : goal.pass_one-p-requires
 pass_one-p-requires c =
@@ -92,4 +93,4 @@ loop-p-preserved c =
 
 pub returns : goal.returns
 returns c =
-    end L.before.before.before.before c.loop-p.p c.loop-p.invariant c.loop-p-test.false
+    end (goal.at.returns c).Start c.loop-p.p c.loop-p.invariant c.loop-p-test.false

@@ -26,7 +26,7 @@ use Rattle.checks.proofs.look_over_both.Goals.{After-fault_of-fault, After-shape
 pub returns-in-Refused : goal.returns-in-Refused
 returns-in-Refused c =
     let look = c.look_over-listing.ensures in
-    let told = c.enum_told-1.given.1 in record {
+    let told = c.in-Refused.is in record {
       looked = λ table. renumbered _ (sym (forecast-stays _ _ _ _ (λ e. refused-some _ _ told ((look.looked table).number ∙ e)))) (look.looked table);
       counts = look.counts;
     }
@@ -52,7 +52,7 @@ module _ (c : After-shape-1) where
   counting = c.look_over-listing.ensures.counts
 
   accepted : listing.verdict ≡ Accepted
-  accepted = c.enum_told-in_default-1.given.1
+  accepted = c.in-Refused.is
 
   passes : (table : List ℕ) → check_cards profile (lent table) ≡ 0
   passes table = sym (looked table).number ∙ ap verdict_number accepted

@@ -40,7 +40,7 @@ returns-then-lower-upper c =
     let a = c.args in
     record {
       range = near-modest (goal.at.returns-then-lower-upper c).After-nearer-near;
-      nearest = near-is (goal.at.returns-then-lower-upper c).After-nearer-near ∙ sym (one-look a.found a.s a.c a.m c.requires.2 (sym (lower-is (goal.at.returns-then-lower-upper c).After-nearer-near) ∙ c.if-lower-upper.taken ∙ upper_is (goal.at.returns-then-lower-upper c).After-nearer-near));
+      nearest = near-is (goal.at.returns-then-lower-upper c).After-nearer-near ∙ sym (one-look a.found a.s a.c a.m c.requires.2 (sym (lower-is (goal.at.returns-then-lower-upper c).After-nearer-near) ∙ c.if-lower-upper.true ∙ upper_is (goal.at.returns-then-lower-upper c).After-nearer-near));
     }
 
 pub nearer-requires : goal.nearer-requires

@@ -14,7 +14,10 @@ loop-i-init c = (omega arith, omega arith, (omega arith, omega arith), λ ss q. 
 
 pub mark_cell-n-requires : goal.mark_cell-n-requires
 mark_cell-n-requires c =
-    ((c.requires.n_bound.0, omega arith, omega arith), c.requires.n_in_bounds)
+    record {
+      n_bound = (c.requires.n_bound.0, omega arith, omega arith);
+      n_in_bounds = c.requires.n_in_bounds;
+    }
 
 pub loop-i-preserved : goal.loop-i-preserved
 loop-i-preserved c =

@@ -4,7 +4,7 @@
 
 use rules::Totals;
 use std::io;
-use std::io::{BufWriter, Read, Write};
+use std::io::{BufWriter, Write};
 
 fn text(out: &mut impl Write, s: &[u8]) -> io::Result<()> {
     out.write_all(s)
@@ -35,8 +35,8 @@ fn segment(out: &mut impl Write, at: u64, keys: usize) -> io::Result<()> {
 
 fn main(rt: HostRuntime) -> io::Result<()> {
     let mut out = BufWriter::new(rt.alloc(), io::writer(&rt))?;
-    let mut input = Vec::new(rt.alloc());
-    rt.reader().take(65536).read_to_end(&mut input)?;
+    let mut input = inputs::large_buffer();
+    let n = inputs::read_full(&mut rt.reader(), &mut input);
     let mut slots = [0u64; 256];
     let mut cards = [0u32; 256];
     let mut table = [0usize; 7];
@@ -53,7 +53,7 @@ fn main(rt: HostRuntime) -> io::Result<()> {
         &mut cards,
         &mut table,
         made.forecast,
-        &input,
+        &input[..n],
         1000000,
         totals,
     );

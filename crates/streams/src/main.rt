@@ -6,7 +6,7 @@ use forecast::Forecast;
 use rules::{Tally, Totals};
 use std::fs::File;
 use std::io;
-use std::io::{BufWriter, Read, Write};
+use std::io::{BufWriter, Write};
 use std::rt::Files;
 
 fn text(out: &mut impl Write, s: &[u8]) -> io::Result<()> {
@@ -66,7 +66,7 @@ fn tell(
 
 // Works one stream and hands the forecast back.
 fn stream(
-    rt: &(impl Files + AllocGlobal),
+    rt: &(impl Files),
     out: &mut impl Write,
     profile: u64,
     name: &str,
@@ -76,8 +76,8 @@ fn stream(
     forecast: Forecast,
     allowance: u64,
 ) -> io::Result<Forecast> {
-    let mut input = Vec::new(rt.alloc());
-    File::open(rt, name)?.take(65536).read_to_end(&mut input)?;
+    let mut input = inputs::large_buffer();
+    let n = inputs::read_full(&mut File::open(rt, name)?, &mut input);
     let before = Totals {
         worked: 4294967295,
         refused: 0,
@@ -85,7 +85,14 @@ fn stream(
         sweeps: 0,
     };
     let done = run::running::run_with(
-        profile, list, cards, table, forecast, &input, allowance, before,
+        profile,
+        list,
+        cards,
+        table,
+        forecast,
+        &input[..n],
+        allowance,
+        before,
     );
     let reply = done.reply;
     let left = reply.forecast;
@@ -110,7 +117,7 @@ fn stream(
 
 // Works one stream on a list made empty.
 fn fresh(
-    rt: &(impl Files + AllocGlobal),
+    rt: &(impl Files),
     out: &mut impl Write,
     profile: u64,
     name: &str,
@@ -135,7 +142,7 @@ fn fresh(
 }
 
 // Each stream on a list of its own.
-fn apart(rt: &(impl Files + AllocGlobal), out: &mut impl Write) -> io::Result<()> {
+fn apart(rt: &(impl Files), out: &mut impl Write) -> io::Result<()> {
     fresh(rt, out, 1, "empty", 1000)?;
     fresh(rt, out, 1, "short", 1000)?;
     fresh(rt, out, 1, "mark", 1000)?;

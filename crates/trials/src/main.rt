@@ -9,7 +9,7 @@ ghost use Rattle.std.specs.Prelude.{◌≤◌, ◌+◌, length};
 
 use forecast::Forecast;
 use std::io;
-use std::io::{BufWriter, Read, Write};
+use std::io::{BufWriter, Write};
 
 #[derive(Clone, Copy)]
 pub struct Command {
@@ -163,11 +163,11 @@ fn play(
 
 fn main(rt: HostRuntime) -> io::Result<()> {
     let mut out = BufWriter::new(rt.alloc(), io::writer(&rt))?;
-    let mut input = Vec::new(rt.alloc());
-    rt.reader().take(65536).read_to_end(&mut input)?;
+    let mut input = inputs::large_buffer();
+    let n = inputs::read_full(&mut rt.reader(), &mut input);
     let mut slots = [0u64; 8192];
     let mut cards = [0u32; 8192];
     let mut table = [0usize; 256];
-    play(&mut out, &input, &mut slots, &mut cards, &mut table)?;
+    play(&mut out, &input[..n], &mut slots, &mut cards, &mut table)?;
     out.flush()
 }

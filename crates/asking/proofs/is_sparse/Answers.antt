@@ -9,7 +9,7 @@ pub returns-then-grows : goal.returns-then-grows
 returns-then-grows c = record { is = λ h. rw c.if-grows.true refl; refused = λ a. refl }
 
 pub returns-in-Refused : goal.returns-in-Refused
-returns-in-Refused c = record { is = λ h. rw (c.if-grows.false, c.enum_told-1.given.1) refl; refused = λ a. refl }
+returns-in-Refused c = record { is = λ h. rw (c.if-grows.false, c.in-Refused.is) refl; refused = λ a. refl }
 
 pub returns-then-height-eq0 : goal.returns-then-height-eq0
 returns-then-height-eq0 c = record { is = λ h. absurd (omega (arith, h, c.if-height-eq0.true, c.height_of-height.ensures.0)); refused = λ a. refl }
@@ -17,7 +17,7 @@ returns-then-height-eq0 c = record { is = λ h. absurd (omega (arith, h, c.if-he
 pub returns : goal.returns
 returns c =
     let grows = c.if-grows.false in
-    let done = c.enum_told-in_default-1.given.1 in
+    let done = c.in_default.is in
     let tall = c.height_of-height.ensures.0 in
     let named = c.profile_of.ensures in
     record { is = λ h. rw (grows, done, sym tall, sym named, sym c.shape_of-shape.ensures.1.floor) refl; refused = λ a. absurd (true≢false (sym (ap is_accepted done) ∙ a)) }

@@ -1,27 +1,27 @@
 -- `together` gathers sixteen and sixteen, from the end, and the sixteen from `c` on.
-use mathlib.Core.Logic.{inl, inr}
 use Prim.Native.Nat.{ℕ, ◌+◌, ◌≤◌}
 use native.Mathlib.Omega.{arith}
 use Rattle.strays.specs.Blanks.{Gathers}
 use Rattle.strays.proofs.Gathered.{gathers-before}
 use Rattle.strays.proofs.together.Goals as goal
+use Rattle.strays.proofs.together.Goals.{Joined-c-le32}
 
 -- where the ways meet: the cards from n on are gathered, and n is not past the sixteen from `c` on
-gathered : (j : goal.Joined-c-le32) → let s = j.args in
+gathered : (j : Joined-c-le32) → let s = j.args in
     (n : ℕ) × (s.c ≤ n) × (n ≤ s.c + 16) × Gathers s.cards.now n 64 s.l j.if-c-le32.all
 gathered j =
     let s = j.args in
     let cards = s.cards.now in
     let last = j.sixteen-all.ensures in
     elim j.if-c-le32.branch [
-      | inl w ↦ (
+      | goal.then-c-le32+then-c-le16 w ↦ (
         16,
-        w.2.taken,
+        w.if-c-le16.true,
         omega arith,
-        rw w.4 (gathers-before cards 16 32 32 64 (omega arith) (omega arith) (omega arith) (gathers-before cards 32 48 48 64 (omega arith) (omega arith) (omega arith) last w.1.ensures) w.3.ensures),
+        rw w.all-is (gathers-before cards 16 32 32 64 (omega arith) (omega arith) (omega arith) (gathers-before cards 32 48 48 64 (omega arith) (omega arith) (omega arith) last w.sixteen-all-then-c-le32.ensures) w.sixteen-all-then-c-le16.ensures),
       )
-      | inr (inl w) ↦ (32, w.0.taken, omega (arith, w.2.left), rw w.3 (gathers-before cards 32 48 48 64 (omega arith) (omega arith) (omega arith) last w.1.ensures))
-      | inr (inr w) ↦ (48, j.if-c-gt48.false, omega (arith, w.0.left), rw w.1 last)
+      | goal.then-c-le32+else-c-le16 w ↦ (32, w.if-c-le32.true, omega (arith, w.if-c-le16.false), rw w.all-is (gathers-before cards 32 48 48 64 (omega arith) (omega arith) (omega arith) last w.sixteen-all-then-c-le32.ensures))
+      | goal.else-c-le32 w ↦ (48, j.if-c-gt48.false, omega (arith, w.if-c-le32.false), rw w.all-is last)
     ]
 
 pub returns : goal.returns

@@ -5,9 +5,10 @@ use lib.ListN.{length}
 use Rattle.seats.proofs.Indexes.{few-segments, table-many, table-holds}
 use Rattle.sweeps.proofs.Recounted.{recount-asks, recounted}
 use Rattle.sweeps.proofs.recount.Goals as goal
+use Rattle.sweeps.proofs.recount.Goals.{Start}
 
 -- the plan's places are in the table
-ends : (s : goal.Start) → s.args.first + length s.args.plan.now ≤ 64
+ends : (s : Start) → s.args.first + length s.args.plan.now ≤ 64
 ends s = omega (arith, s.requires.0.4, few-segments s.requires.0.3)
 
 pub keep-requires : goal.keep-requires
@@ -28,4 +29,4 @@ sum_over-requires c = (
 
 pub returns : goal.returns
 returns c h ss window size right counts =
-    recounted c.args.first c.args.table.now c.args.plan.now _ c.requires.1 c.keep.ensures h ss window _ size right (omega (arith, c.requires.0.4, table-many c.requires.0.3)) counts c.Sum-over.ensures
+    recounted c.args.first c.args.table.now c.args.plan.now _ c.requires.1 c.keep.ensures h ss window _ size right (omega (arith, c.requires.0.4, table-many c.requires.0.3)) counts c.sum_over.ensures

@@ -66,7 +66,7 @@ fn tell(
 
 // Works one stream and hands the forecast back.
 fn stream(
-    rt: &(impl Files),
+    rt: &impl Files,
     out: &mut impl Write,
     profile: u64,
     name: &str,
@@ -117,7 +117,7 @@ fn stream(
 
 // Works one stream on a list made empty.
 fn fresh(
-    rt: &(impl Files),
+    rt: &impl Files,
     out: &mut impl Write,
     profile: u64,
     name: &str,
@@ -142,7 +142,7 @@ fn fresh(
 }
 
 // Each stream on a list of its own.
-fn apart(rt: &(impl Files), out: &mut impl Write) -> io::Result<()> {
+fn apart(rt: &impl Files, out: &mut impl Write) -> io::Result<()> {
     fresh(rt, out, 1, "empty", 1000)?;
     fresh(rt, out, 1, "short", 1000)?;
     fresh(rt, out, 1, "mark", 1000)?;

@@ -15,7 +15,7 @@ import sys
 
 import tree
 
-KNOWN = {"requires", "ensures", "break", "Proof.antt"}          # words of the language, and of its files
+KNOWN = {"requires", "ensures", "break", "Proof.antt", "Answers.antt", "Invariants.antt"}          # words of the language, and of its files
 TOKEN = re.compile(r"`([^`]+)`|\b([A-Z]\w*)(?= `)|\b([A-Z][a-z]+[A-Z0-9]\w*)\b|\b([a-z][a-z0-9]*(?:_[a-z0-9]+)+)\b")
 NAME = re.compile(r"[^\s`()&.,;:/]+$")
 BETWEEN = re.compile(r"\s*(?:,|and|to|, and|\(with|, with)?\s*$")

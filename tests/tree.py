@@ -7,6 +7,7 @@ BLOCKS = {"record", "data", "module"}           # what they hold is defined too;
 WORDS = {"pub", "abbrev", "unfoldable"} | BLOCKS
 LIST = re.compile(r"^\s*(?:unfoldable )?pub use [^{]*\{(.*)\}")
 CODE = re.compile(r"^\s*(?:pub )?(?:extern \"C\" )?(?:fn|struct|enum|const|static|trait) (\w+)")
+OF_A_FUNCTION = re.compile(r"/proofs/.+/(?:Proof|Answers|Invariants)\.antt$")     # what is written of one function's proof
 VARIANT = re.compile(r"^\s{4}([A-Z]\w*)(?:\(.*\))?,$")
 
 
@@ -85,7 +86,7 @@ class Tree:
         for path in below(os.path.join(root, "crates"), (".antt", ".rt")):
             short = os.path.relpath(path, root)
             self.files[short] = names_of(path)
-            if path.endswith(".antt") and not path.endswith("/Proof.antt"):
+            if path.endswith(".antt") and not OF_A_FUNCTION.search(short):
                 self.stems.setdefault(os.path.basename(path)[:-len(".antt")], []).append(short)
         for path in below(os.path.join(root, "crates"), ".edit"):
             self.edits.setdefault(os.path.basename(path)[:-len(".edit")], []).append(crate_of(os.path.relpath(path, root)))

@@ -3,9 +3,9 @@
 #   need_file FILE PACKAGE.. the same where the file is missing
 #   need_compilers           sees to $x86cc and $x86cxx, compilers for x86-64
 #   need_archive             proves crate `host` and sets $archive to its archive (FF_ARCHIVE: another one instead)
-#   need_run_archive         the same of crate `told`: $run_archive (FF_RUN_ARCHIVE)
-#   need_program NAME        proves a program and sets $program to it; it is started by the loader of $tools, the kit's folder
-#   x86 PROGRAM ARG..        runs a statically linked x86-64 program; on an Arm machine under the kit's emulator
+#   need_run_archive         the same of crate `over`: $run_archive (FF_RUN_ARCHIVE)
+#   need_program NAME        proves a program, runs it once on nothing and sets $program to it; $tools, the kit's folder, has a loader for it
+#   x86 PROGRAM ARG..        runs a statically linked x86-64 program; on an Arm machine under QEMU
 
 x86cc=x86_64-linux-gnu-gcc x86cxx=x86_64-linux-gnu-g++
 
@@ -33,31 +33,33 @@ need_compilers() {
     else
         need $x86cc gcc-x86-64-linux-gnu libc6-dev-amd64-cross
         need $x86cxx g++-x86-64-linux-gnu
+        need "$emulator" qemu-user
     fi
 }
 
-in_root() {
-    (cd "$root" && "$@" >&2)
+# In a crate's folder.
+in_crate() {
+    (cd "$root/crates/$1" && shift && "$@" >&2)
 }
 
 need_archive() {
-    archive=${FF_ARCHIVE:-$root/target/staticlib/libhost.a}
-    [ -n "${FF_ARCHIVE:-}" ] || in_root rt staticlib host
+    archive=${FF_ARCHIVE:-$root/crates/host/out/libhost.a}
+    [ -n "${FF_ARCHIVE:-}" ] || in_crate host rt lib
 }
 
 need_run_archive() {
-    run_archive=${FF_RUN_ARCHIVE:-$root/target/staticlib/libtold.a}
-    [ -n "${FF_RUN_ARCHIVE:-}" ] || in_root rt staticlib told
+    run_archive=${FF_RUN_ARCHIVE:-$root/crates/over/out/libover.a}
+    [ -n "${FF_RUN_ARCHIVE:-}" ] || in_crate over rt lib
 }
 
 need_program() {
-    program=$root/target/bin/$1
-    in_root rt check "$1"
+    program=$root/crates/$1/out/$1
+    in_crate "$1" rt run </dev/null
 }
 
-tools=$(dirname "$(dirname "$(rt doc)")")/on/$(uname -m)/toolchain
+tools=$(dirname "$(dirname "$(readlink -f "$(command -v rt)")")")/toolchain
 emulator=''
-[ "$(uname -m)" = x86_64 ] || emulator=$tools/bin/qemu-x86_64
+[ "$(uname -m)" = x86_64 ] || emulator=qemu-x86_64
 
 x86() {
     ${emulator:+"$emulator"} "$@"

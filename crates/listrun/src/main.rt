@@ -2,39 +2,41 @@
 // run's moves, the sweeps made and the stop number; then each segment's number and key count, a line each. Further input stays unread.
 #![tactic(auto)]
 
-use libc::STDOUT_FILENO;
 use rules::Totals;
+use std::io;
+use std::io::{BufWriter, Write};
 
-fn text(s: &[u8]) {
-    io::write_all(STDOUT_FILENO, s);
+fn text(out: &mut impl Write, s: &[u8]) -> io::Result<()> {
+    out.write_all(s)
 }
 
-fn number(n: u64) {
-    io::print_decimal(STDOUT_FILENO, n);
+fn number(out: &mut impl Write, n: u64) -> io::Result<()> {
+    write!(out, "{n}")
 }
 
-fn counts(keys: u64, moved: u64, swept: u64, stop: u64) {
-    text(b"keys ");
-    number(keys);
-    text(b" moved ");
-    number(moved);
-    text(b" swept ");
-    number(swept);
-    text(b" stop ");
-    number(stop);
-    text(b"\n");
+fn counts(out: &mut impl Write, keys: u64, moved: u64, swept: u64, stop: u64) -> io::Result<()> {
+    text(out, b"keys ")?;
+    number(out, keys)?;
+    text(out, b" moved ")?;
+    number(out, moved)?;
+    text(out, b" swept ")?;
+    number(out, swept)?;
+    text(out, b" stop ")?;
+    number(out, stop)?;
+    text(out, b"\n")
 }
 
-fn segment(at: u64, keys: usize) {
-    number(at);
-    text(b" ");
-    number(keys as u64);
-    text(b"\n");
+fn segment(out: &mut impl Write, at: u64, keys: usize) -> io::Result<()> {
+    number(out, at)?;
+    text(out, b" ")?;
+    number(out, keys as u64)?;
+    text(out, b"\n")
 }
 
-fn main() {
-    let mut input = io::large_buffer();
-    let n = io::read_full(0, &mut input);
+fn main(rt: HostRuntime) -> io::Result<()> {
+    let mut out = BufWriter::new(rt.alloc(), io::writer(&rt))?;
+    let mut input = inputs::large_buffer();
+    let n = inputs::read_full(&mut rt.reader(), &mut input);
     let mut slots = [0u64; 256];
     let mut cards = [0u32; 256];
     let mut table = [0usize; 7];
@@ -59,13 +61,15 @@ fn main() {
     let tally = reply.tally;
     let stop = reply.stop;
     counts(
+        &mut out,
         table[6] as u64,
         tally.moves,
         tally.sweeps as u64,
         words::numbers::verdict_number(stop),
-    );
-    segment(0, table[0]);
-    segment(1, table[1]);
-    segment(2, table[2]);
-    segment(3, table[3]);
+    )?;
+    segment(&mut out, 0, table[0])?;
+    segment(&mut out, 1, table[1])?;
+    segment(&mut out, 2, table[2])?;
+    segment(&mut out, 3, table[3])?;
+    out.flush()
 }

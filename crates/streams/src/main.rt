@@ -3,32 +3,36 @@
 #![tactic(auto)]
 
 use forecast::Forecast;
-use libc::STDOUT_FILENO;
 use rules::{Tally, Totals};
+use std::fs::File;
+use std::io;
+use std::io::{BufWriter, Write};
+use std::rt::Files;
 
-fn text(s: &[u8]) {
-    io::write_all(STDOUT_FILENO, s);
+fn text(out: &mut impl Write, s: &[u8]) -> io::Result<()> {
+    out.write_all(s)
 }
 
-fn told(name: &[u8], n: u64) {
-    text(name);
-    io::print_decimal(STDOUT_FILENO, n);
+fn told(out: &mut impl Write, name: &[u8], n: u64) -> io::Result<()> {
+    text(out, name)?;
+    write!(out, "{n}")
 }
 
-fn four(name: &[u8], totals: Totals) {
-    told(name, totals.worked as u64);
-    told(b" ", totals.refused as u64);
-    told(b" ", totals.moved as u64);
-    told(b" ", totals.sweeps as u64);
+fn four(out: &mut impl Write, name: &[u8], totals: Totals) -> io::Result<()> {
+    told(out, name, totals.worked as u64)?;
+    told(out, b" ", totals.refused as u64)?;
+    told(out, b" ", totals.moved as u64)?;
+    told(out, b" ", totals.sweeps as u64)
 }
 
-fn entries(table: &[usize]) {
-    text(b" table");
+fn entries(out: &mut impl Write, table: &[usize]) -> io::Result<()> {
+    text(out, b" table")?;
     let mut i = 0;
     while i < table.len() {
-        told(b" ", table[i] as u64);
+        told(out, b" ", table[i] as u64)?;
         i += 1;
     }
+    Ok(())
 }
 
 // What the cards hold, as one number.
@@ -42,30 +46,38 @@ fn sum_of(cards: &[u32]) -> u64 {
     sum
 }
 
-fn tell(tally: Tally, stop: u64, totals: Totals, added: Totals, check: u64) {
-    told(b" worked ", tally.worked as u64);
-    told(b" refused ", tally.refused as u64);
-    told(b" moves ", tally.moves);
-    told(b" stop ", stop);
-    told(b" place ", tally.place as u64);
-    four(b" totals ", totals);
-    four(b" added ", added);
-    told(b" check ", check);
+fn tell(
+    out: &mut impl Write,
+    tally: Tally,
+    stop: u64,
+    totals: Totals,
+    added: Totals,
+    check: u64,
+) -> io::Result<()> {
+    told(out, b" worked ", tally.worked as u64)?;
+    told(out, b" refused ", tally.refused as u64)?;
+    told(out, b" moves ", tally.moves)?;
+    told(out, b" stop ", stop)?;
+    told(out, b" place ", tally.place as u64)?;
+    four(out, b" totals ", totals)?;
+    four(out, b" added ", added)?;
+    told(out, b" check ", check)
 }
 
 // Works one stream and hands the forecast back.
 fn stream(
+    rt: &impl Files,
+    out: &mut impl Write,
     profile: u64,
-    name: &[u8],
+    name: &str,
     list: &mut [u64],
     cards: &mut [u32],
     table: &mut [usize],
     forecast: Forecast,
     allowance: u64,
-) -> Forecast {
-    let mut input = io::large_buffer();
-    let fd = os::open_read(name);
-    let n = io::read_full(fd, &mut input);
+) -> io::Result<Forecast> {
+    let mut input = inputs::large_buffer();
+    let n = inputs::read_full(&mut File::open(rt, name)?, &mut input);
     let before = Totals {
         worked: 4294967295,
         refused: 0,
@@ -86,29 +98,38 @@ fn stream(
     let left = reply.forecast;
     let answer = list::calls::check(profile, list, cards, table, left);
     let check = telling::check_number(answer);
-    text(name);
+    text(out, name.as_bytes())?;
     let after = done.totals;
     let stop = reply.stop;
     tell(
+        out,
         reply.tally,
         words::numbers::verdict_number(stop),
         after,
         run::totals::difference(after, before),
         check,
-    );
-    entries(table);
-    told(b" cards ", sum_of(cards));
-    text(b"\n");
-    left
+    )?;
+    entries(out, table)?;
+    told(out, b" cards ", sum_of(cards))?;
+    text(out, b"\n")?;
+    Ok(left)
 }
 
 // Works one stream on a list made empty.
-fn fresh(profile: u64, name: &[u8], allowance: u64) {
+fn fresh(
+    rt: &impl Files,
+    out: &mut impl Write,
+    profile: u64,
+    name: &str,
+    allowance: u64,
+) -> io::Result<()> {
     let mut slots = [0u64; 256];
     let mut cards = [0u32; 256];
     let mut table = [0usize; 7];
     let made = list::calls::make(profile, &mut slots, &mut cards, &mut table);
     stream(
+        rt,
+        out,
         profile,
         name,
         &mut slots,
@@ -116,50 +137,71 @@ fn fresh(profile: u64, name: &[u8], allowance: u64) {
         &mut table,
         made.forecast,
         allowance,
-    );
+    )?;
+    Ok(())
 }
 
 // Each stream on a list of its own.
-fn apart() {
-    fresh(1, b"empty", 1000);
-    fresh(1, b"short", 1000);
-    fresh(1, b"mark", 1000);
-    fresh(1, b"kind", 1000);
-    fresh(1, b"refused", 1000000);
-    fresh(1, b"moving", 55);
-    fresh(1, b"moving", 54);
-    fresh(2, b"moving", 1000);
-    fresh(1, b"cards", 1000);
-    fresh(1, b"cut", 1000);
-    fresh(1, b"swept", 1000);
+fn apart(rt: &impl Files, out: &mut impl Write) -> io::Result<()> {
+    fresh(rt, out, 1, "empty", 1000)?;
+    fresh(rt, out, 1, "short", 1000)?;
+    fresh(rt, out, 1, "mark", 1000)?;
+    fresh(rt, out, 1, "kind", 1000)?;
+    fresh(rt, out, 1, "refused", 1000000)?;
+    fresh(rt, out, 1, "moving", 55)?;
+    fresh(rt, out, 1, "moving", 54)?;
+    fresh(rt, out, 2, "moving", 1000)?;
+    fresh(rt, out, 1, "cards", 1000)?;
+    fresh(rt, out, 1, "cut", 1000)?;
+    fresh(rt, out, 1, "swept", 1000)
 }
 
 // Several on one list, one after the other; then with a table too short, too few cards, too few slots, and a card in a gap.
-fn main() {
-    apart();
+fn main(rt: HostRuntime) -> io::Result<()> {
+    let mut out = BufWriter::new(rt.alloc(), io::writer(&rt))?;
+    apart(&rt, &mut out)?;
     let mut slots = [0u64; 256];
     let mut cards = [0u32; 256];
     let mut table = [0usize; 7];
     let made = list::calls::make(1, &mut slots, &mut cards, &mut table);
     let moved = stream(
+        &rt,
+        &mut out,
         1,
-        b"moving",
+        "moving",
         &mut slots,
         &mut cards,
         &mut table,
         made.forecast,
         1000,
-    );
-    let again = stream(1, b"again", &mut slots, &mut cards, &mut table, moved, 1000);
-    let left = stream(1, b"cards", &mut slots, &mut cards, &mut table, again, 1000);
-    stream(1, b"empty", &mut slots, &mut cards, &mut table, left, 0);
-    stream(3, b"empty", &mut slots, &mut cards, &mut table, left, 0);
+    )?;
+    let again = stream(
+        &rt, &mut out, 1, "again", &mut slots, &mut cards, &mut table, moved, 1000,
+    )?;
+    let left = stream(
+        &rt, &mut out, 1, "cards", &mut slots, &mut cards, &mut table, again, 1000,
+    )?;
+    stream(
+        &rt, &mut out, 1, "empty", &mut slots, &mut cards, &mut table, left, 0,
+    )?;
+    stream(
+        &rt, &mut out, 3, "empty", &mut slots, &mut cards, &mut table, left, 0,
+    )?;
     let mut short = [0usize; 6];
-    stream(1, b"moving", &mut slots, &mut cards, &mut short, left, 1000);
+    stream(
+        &rt, &mut out, 1, "moving", &mut slots, &mut cards, &mut short, left, 1000,
+    )?;
     let mut few = [0u32; 255];
-    stream(1, b"moving", &mut slots, &mut few, &mut table, left, 1000);
+    stream(
+        &rt, &mut out, 1, "moving", &mut slots, &mut few, &mut table, left, 1000,
+    )?;
     let mut wrong = [0u64; 255];
-    stream(1, b"moving", &mut wrong, &mut cards, &mut table, left, 1000);
+    stream(
+        &rt, &mut out, 1, "moving", &mut wrong, &mut cards, &mut table, left, 1000,
+    )?;
     cards[255] = 7;
-    stream(1, b"moving", &mut slots, &mut cards, &mut table, left, 1000);
+    stream(
+        &rt, &mut out, 1, "moving", &mut slots, &mut cards, &mut table, left, 1000,
+    )?;
+    out.flush()
 }

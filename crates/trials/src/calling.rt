@@ -1,6 +1,8 @@
 // Each command, worked on what is lent; one that may change the forecast gives it as it is then.
 use crate::{Command, showing};
 use forecast::Forecast;
+use std::io;
+use std::io::Write;
 
 // A number as a byte: 255 for all that is over it.
 fn narrow(x: u64) -> u8 {
@@ -16,58 +18,90 @@ fn card_of(x: u64) -> u32 {
 }
 
 // 1: an empty list.
-fn make(profile: u64, list: &mut [u64], cards: &mut [u32], table: &mut [usize]) -> Forecast {
+fn make(
+    out: &mut impl Write,
+    profile: u64,
+    list: &mut [u64],
+    cards: &mut [u32],
+    table: &mut [usize],
+) -> io::Result<Forecast> {
     let reply = list::calls::make(profile, list, cards, table);
     let answer = reply.answer;
-    showing::line(b"make", telling::make_number(answer), 0);
-    reply.forecast
+    showing::line(out, b"make", telling::make_number(answer), 0)?;
+    Ok(reply.forecast)
 }
 
 // 2: insert of x with card y.
 fn insert(
+    out: &mut impl Write,
     profile: u64,
     list: &mut [u64],
     cards: &mut [u32],
     table: &mut [usize],
     forecast: Forecast,
     c: Command,
-) -> Forecast {
+) -> io::Result<Forecast> {
     let reply = list::changing::insert(profile, list, cards, table, forecast, c.x, card_of(c.y));
     let answer = reply.answer;
-    showing::told(b"insert", telling::insert_told(answer));
-    reply.forecast
+    showing::told(out, b"insert", telling::insert_told(answer))?;
+    Ok(reply.forecast)
 }
 
 // 3: delete of x.
 fn delete(
+    out: &mut impl Write,
     profile: u64,
     list: &mut [u64],
     cards: &mut [u32],
     table: &mut [usize],
     forecast: Forecast,
     c: Command,
-) -> Forecast {
+) -> io::Result<Forecast> {
     let reply = list::changing::delete(profile, list, cards, table, forecast, c.x);
     let answer = reply.answer;
-    showing::told(b"delete", telling::delete_told(answer));
-    reply.forecast
+    showing::told(out, b"delete", telling::delete_told(answer))?;
+    Ok(reply.forecast)
 }
 
 // 4: lookup of x.
-fn lookup(profile: u64, list: &[u64], cards: &[u32], table: &[usize], c: Command) {
+fn lookup(
+    out: &mut impl Write,
+    profile: u64,
+    list: &[u64],
+    cards: &[u32],
+    table: &[usize],
+    c: Command,
+) -> io::Result<()> {
     let answer = list::calls::lookup(profile, list, cards, table, c.x);
-    showing::told(b"lookup", telling::lookup_told(answer));
+    showing::told(out, b"lookup", telling::lookup_told(answer))
 }
 
 // 5: scan from x into y numbers, all 7 before, and z cards, all 9 before.
-fn scan(profile: u64, list: &[u64], cards: &[u32], table: &[usize], c: Command) {
+fn scan(
+    out: &mut impl Write,
+    profile: u64,
+    list: &[u64],
+    cards: &[u32],
+    table: &[usize],
+    c: Command,
+) -> io::Result<()> {
     let mut output = [7u64; 64];
     let mut beside = [9u32; 64];
-    scan_into(profile, list, cards, table, c, &mut output, &mut beside);
+    scan_into(
+        out,
+        profile,
+        list,
+        cards,
+        table,
+        c,
+        &mut output,
+        &mut beside,
+    )
 }
 
 // The scan into the first y numbers and the first z cards of the outputs, and what both hold then.
 fn scan_into(
+    out: &mut impl Write,
     profile: u64,
     list: &[u64],
     cards: &[u32],
@@ -75,14 +109,14 @@ fn scan_into(
     c: Command,
     output: &mut [u64],
     beside: &mut [u32],
-) {
+) -> io::Result<()> {
     let n = c.y as usize;
     let m = c.z as usize;
     if output.len() < n {
-        return;
+        return Ok(());
     }
     if beside.len() < m {
-        return;
+        return Ok(());
     }
     let answer = list::calls::scan(
         profile,
@@ -93,18 +127,26 @@ fn scan_into(
         &mut output[..n],
         &mut beside[..m],
     );
-    showing::told(b"scan", telling::scan_told(answer));
+    showing::told(out, b"scan", telling::scan_told(answer))?;
     showing::line(
+        out,
         b"output",
         showing::sum_of(output),
         showing::cards_sum(beside),
-    );
+    )
 }
 
 // 6: check.
-fn check(profile: u64, list: &[u64], cards: &[u32], table: &[usize], forecast: Forecast) {
+fn check(
+    out: &mut impl Write,
+    profile: u64,
+    list: &[u64],
+    cards: &[u32],
+    table: &[usize],
+    forecast: Forecast,
+) -> io::Result<()> {
     let answer = list::calls::check(profile, list, cards, table, forecast);
-    showing::line(b"check", telling::check_number(answer), 0);
+    showing::line(out, b"check", telling::check_number(answer), 0)
 }
 
 // 7: slot x becomes y.
@@ -135,11 +177,22 @@ fn put_used(forecast: Forecast, c: Command) -> Forecast {
 }
 
 // 10: what is lent, as it stands.
-fn show(list: &[u64], cards: &[u32], table: &[usize], forecast: Forecast) {
-    showing::show_counts(list);
-    showing::show_cells(forecast);
-    showing::line(b"slots", showing::sum_of(list), showing::cards_sum(cards));
-    showing::show_table(table);
+fn show(
+    out: &mut impl Write,
+    list: &[u64],
+    cards: &[u32],
+    table: &[usize],
+    forecast: Forecast,
+) -> io::Result<()> {
+    showing::show_counts(out, list)?;
+    showing::show_cells(out, forecast)?;
+    showing::line(
+        out,
+        b"slots",
+        showing::sum_of(list),
+        showing::cards_sum(cards),
+    )?;
+    showing::show_table(out, table)
 }
 
 // 12: entry x becomes y.
@@ -160,45 +213,56 @@ fn put_card(cards: &mut [u32], c: Command) {
 
 // A command, and the forecast then.
 pub fn change(
+    out: &mut impl Write,
     profile: u64,
     list: &mut [u64],
     cards: &mut [u32],
     table: &mut [usize],
     forecast: Forecast,
     c: Command,
-) -> Forecast {
+) -> io::Result<Forecast> {
     let ask = c.ask;
     match ask {
-        1 => make(profile, list, cards, table),
-        2 => insert(profile, list, cards, table, forecast, c),
-        3 => delete(profile, list, cards, table, forecast, c),
-        8 => put_cell(forecast, c),
-        9 => put_used(forecast, c),
+        1 => make(out, profile, list, cards, table),
+        2 => insert(out, profile, list, cards, table, forecast, c),
+        3 => delete(out, profile, list, cards, table, forecast, c),
+        8 => Ok(put_cell(forecast, c)),
+        9 => Ok(put_used(forecast, c)),
         _ => {
-            leave(profile, list, cards, table, forecast, c);
-            forecast
+            leave(out, profile, list, cards, table, forecast, c)?;
+            Ok(forecast)
         }
     }
 }
 
 // A command that leaves the forecast.
 fn leave(
+    out: &mut impl Write,
     profile: u64,
     list: &mut [u64],
     cards: &mut [u32],
     table: &mut [usize],
     forecast: Forecast,
     c: Command,
-) {
+) -> io::Result<()> {
     let ask = c.ask;
     match ask {
-        4 => lookup(profile, list, cards, table, c),
-        5 => scan(profile, list, cards, table, c),
-        6 => check(profile, list, cards, table, forecast),
-        7 => put_slot(list, c),
-        10 => show(list, cards, table, forecast),
-        12 => put_entry(table, c),
-        14 => put_card(cards, c),
-        _ => {}
+        4 => lookup(out, profile, list, cards, table, c),
+        5 => scan(out, profile, list, cards, table, c),
+        6 => check(out, profile, list, cards, table, forecast),
+        7 => {
+            put_slot(list, c);
+            Ok(())
+        }
+        10 => show(out, list, cards, table, forecast),
+        12 => {
+            put_entry(table, c);
+            Ok(())
+        }
+        14 => {
+            put_card(cards, c);
+            Ok(())
+        }
+        _ => Ok(()),
     }
 }

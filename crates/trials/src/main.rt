@@ -8,6 +8,8 @@ mod showing;
 ghost use Rattle.std.specs.Prelude.{◌≤◌, ◌+◌, length};
 
 use forecast::Forecast;
+use std::io;
+use std::io::{BufWriter, Write};
 
 #[derive(Clone, Copy)]
 pub struct Command {
@@ -99,32 +101,46 @@ fn lending(lent: Lent, c: Command) -> Lent {
 }
 
 // A command on what is lent then; ignored where there is not as much.
-fn work(slots: &mut [u64], cards: &mut [u32], table: &mut [usize], room: Room, c: Command) -> Room {
+fn work(
+    out: &mut impl Write,
+    slots: &mut [u64],
+    cards: &mut [u32],
+    table: &mut [usize],
+    room: Room,
+    c: Command,
+) -> io::Result<Room> {
     let lent = lending(room.lent, c);
     let len = lent.len;
     let held = lent.held;
     let entries = lent.entries;
     if slots.len() < len {
-        return room;
+        return Ok(room);
     }
     if cards.len() < held {
-        return room;
+        return Ok(room);
     }
     if table.len() < entries {
-        return room;
+        return Ok(room);
     }
     let forecast = calling::change(
+        out,
         lent.profile,
         &mut slots[..len],
         &mut cards[..held],
         &mut table[..entries],
         room.forecast,
         c,
-    );
-    Room { forecast, lent }
+    )?;
+    Ok(Room { forecast, lent })
 }
 
-fn play(input: &[u8], slots: &mut [u64], cards: &mut [u32], table: &mut [usize]) {
+fn play(
+    out: &mut impl Write,
+    input: &[u8],
+    slots: &mut [u64],
+    cards: &mut [u32],
+    table: &mut [usize],
+) -> io::Result<()> {
     let lent = Lent {
         profile: 1,
         len: 0,
@@ -140,15 +156,18 @@ fn play(input: &[u8], slots: &mut [u64], cards: &mut [u32], table: &mut [usize])
     while i < n {
         let c = command_at(input, 25 * i);
         i += 1;
-        room = work(slots, cards, table, room, c);
+        room = work(out, slots, cards, table, room, c)?;
     }
+    Ok(())
 }
 
-fn main() {
-    let mut input = io::large_buffer();
-    let n = io::read_full(0, &mut input);
+fn main(rt: HostRuntime) -> io::Result<()> {
+    let mut out = BufWriter::new(rt.alloc(), io::writer(&rt))?;
+    let mut input = inputs::large_buffer();
+    let n = inputs::read_full(&mut rt.reader(), &mut input);
     let mut slots = [0u64; 8192];
     let mut cards = [0u32; 8192];
     let mut table = [0usize; 256];
-    play(&input[..n], &mut slots, &mut cards, &mut table);
+    play(&mut out, &input[..n], &mut slots, &mut cards, &mut table)?;
+    out.flush()
 }

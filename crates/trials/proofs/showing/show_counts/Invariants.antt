@@ -3,7 +3,7 @@ use Prim.Native.Nat.{◌-◌, ◌≤◌}
 use Rattle.trials.proofs.showing.show_counts.Given as goal
 
 abbrev pub invariant-loop-s : goal.invariant-loop-s
-invariant-loop-s l = l.s ≤ l.n
+invariant-loop-s g l = l.s ≤ l.n
 
 abbrev pub decreases-loop-s : goal.decreases-loop-s
-decreases-loop-s l = l.n - l.s
+decreases-loop-s g l = l.n - l.s

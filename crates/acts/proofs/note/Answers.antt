@@ -3,8 +3,9 @@ use borrow.Author.Rules.{rules}
 use Rattle.forecast.specs.Tidy.{Roomy}
 use Rattle.acts.proofs.ActedShift.{note-asks, noted_in, noted-out}
 use Rattle.acts.proofs.note.Goals as goal
+use Rattle.acts.proofs.note.Goals.{Start}
 
-roomy : (s : goal.Start) → Roomy s.args.forecast
+roomy : (s : Start) → Roomy s.args.forecast
 roomy s = record { markers = search rules; segments = search rules; counts = search rules }
 
 pub note_insert-requires : goal.note_insert-requires

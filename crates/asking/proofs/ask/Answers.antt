@@ -11,11 +11,12 @@ use Rattle.asking.specs.Requested.{TellsSparse}
 use Rattle.asking.proofs.OneRecord.{requested}
 use borrow.Author.Rules.{rules}
 use Rattle.asking.proofs.ask.Goals as goal
+use Rattle.asking.proofs.ask.Goals.{Start}
 
 pub slice_bounds-work_lent-end : goal.slice_bounds-work_lent-end
 slice_bounds-work_lent-end c = sym (length-take-le _ _ (search rules))
 
-roomy : (s : goal.Start) → Roomy s.args.forecast
+roomy : (s : Start) → Roomy s.args.forecast
 roomy s = record { markers = search rules; segments = search rules; counts = search rules }
 
 pub returns : goal.returns

@@ -9,7 +9,7 @@ pub returns-then-grows : goal.returns-then-grows
 returns-then-grows c = record { is = λ h. rw c.if-grows.true refl; refused = λ a. refl }
 
 pub returns-in-Refused : goal.returns-in-Refused
-returns-in-Refused c = record { is = λ h. rw (c.if-grows.false, c.enum_told-1.given.1) refl; refused = λ a. refl }
+returns-in-Refused c = record { is = λ h. rw (c.if-grows.false, c.in-Refused.is) refl; refused = λ a. refl }
 
 pub returns-then-height-eq0 : goal.returns-then-height-eq0
 returns-then-height-eq0 c = record { is = λ h. absurd (omega (arith, h, c.if-height-eq0.true, c.height_of-height.ensures.0)); refused = λ a. refl }

@@ -23,6 +23,7 @@ use Rattle.shares.specs.Rows.{shares_at, Fetched}
 use Rattle.checks.proofs.Kept.{lawful-length, gaps_asked, gaps-told}
 use Rattle.checks.proofs.Numbers.{refetched, looked-refused, counting-refused, counting_kept}
 use Rattle.checks.proofs.look_over.Goals as goal
+use Rattle.checks.proofs.look_over.Goals.{After-is_kept, After-shape_of-shape, After-stray, Else-not-is_kept, Else-not-is_profile}
 
 pub returns-then-not-is_profile : goal.returns-then-not-is_profile
 returns-then-not-is_profile c =
@@ -32,7 +33,7 @@ returns-then-not-is_profile c =
     }
 
 -- the profile is known
-known : (c : goal.Else-not-is_profile) → is_profile c.args.profile ≡ true
+known : (c : Else-not-is_profile) → is_profile c.args.profile ≡ true
 known c = sym c.is_profile.ensures ∙ c.if-not-is_profile.false
 
 pub returns-then-height-eq0 : goal.returns-then-height-eq0
@@ -55,7 +56,7 @@ pub read_slots-reading-requires : goal.read_slots-reading-requires
 read_slots-reading-requires c = omega (arith, lawful-length (length c.args.list.now) (omega arith))
 
 -- the slots are read
-module _ (c : goal.After-is_kept) where
+module _ (c : After-is_kept) where
   abbrev profile : ℕ
   profile = c.args.profile
 
@@ -91,7 +92,7 @@ returns-then-not-is_kept c =
     }
 
 -- the order is kept
-kept : (c : goal.Else-not-is_kept) → is_kept (order_of (list c.before)) ≡ true
+kept : (c : Else-not-is_kept) → is_kept (order_of (list c.before)) ≡ true
 kept c = order c.before ∙ c.if-not-is_kept.false
 
 pub stray-requires : goal.stray-requires
@@ -99,7 +100,7 @@ stray-requires c =
     gaps_asked (list (goal.at.stray-requires c).After-is_kept) c.args.counts.now (kept (goal.at.stray-requires c).Else-not-is_kept) (high (goal.at.stray-requires c).After-is_kept) (counts (goal.at.stray-requires c).After-is_kept) (tallied (goal.at.stray-requires c).After-is_kept) c.args.cards.now (long (goal.at.stray-requires c).After-is_kept) c.requires
 
 -- a gap has a card, or none has
-gaps : (c : goal.After-stray) → c.stray.result ≡ gap_card (list c.before.before) c.args.cards.now
+gaps : (c : After-stray) → c.stray.result ≡ gap_card (list c.before.before) c.args.cards.now
 gaps c =
     gaps-told (list c.before.before) c.args.counts.now (kept c.before) (high c.before.before) (counts c.before.before) (tallied c.before.before) c.args.cards.now _ c.stray.ensures
 
@@ -112,7 +113,7 @@ returns-then-stray c =
     }
 
 -- no gap has a card, and the shape is that of the list in its profile
-module _ (c : goal.After-shape_of-shape) where
+module _ (c : After-shape_of-shape) where
   in_order : is_kept (order_of (list c.before.before.before.before.before)) ≡ true
   in_order = kept c.before.before.before.before
 

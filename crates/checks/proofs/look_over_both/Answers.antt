@@ -21,17 +21,18 @@ use Rattle.checks.proofs.Tabling.{renumbered, cards-list}
 use Rattle.checks.specs.declared.Listing.{Listing}
 use Rattle.checks.specs.Listings.{ListLooked, Counting}
 use Rattle.checks.proofs.look_over_both.Goals as goal
+use Rattle.checks.proofs.look_over_both.Goals.{After-fault_of-fault, After-shape-1}
 
 pub returns-in-Refused : goal.returns-in-Refused
 returns-in-Refused c =
     let look = c.look_over-listing.ensures in
-    let told = c.enum_told-1.given.1 in record {
+    let told = c.in-Refused.is in record {
       looked = λ table. renumbered _ (sym (forecast-stays _ _ _ _ (λ e. refused-some _ _ told ((look.looked table).number ∙ e)))) (look.looked table);
       counts = look.counts;
     }
 
 -- the list and its cards pass
-module _ (c : goal.After-shape-1) where
+module _ (c : After-shape-1) where
   abbrev profile : ℕ
   profile = c.args.profile
 
@@ -51,7 +52,7 @@ module _ (c : goal.After-shape-1) where
   counting = c.look_over-listing.ensures.counts
 
   accepted : listing.verdict ≡ Accepted
-  accepted = c.enum_told-in_default-1.given.1
+  accepted = c.in-Refused.is
 
   passes : (table : List ℕ) → check_cards profile (lent table) ≡ 0
   passes table = sym (looked table).number ∙ ap verdict_number accepted
@@ -60,7 +61,7 @@ module _ (c : goal.After-shape-1) where
   list-passes = cards-list profile (lent []) (passes [])
 
 -- the fault that is found is the rules'
-module _ (c : goal.After-fault_of-fault) where
+module _ (c : After-fault_of-fault) where
   abbrev told : Forecast
   told = c.args.forecast
 

@@ -8,7 +8,7 @@ use Rattle.checks.proofs.then_table.Goals as goal
 
 pub returns-in-Refused : goal.returns-in-Refused
 returns-in-Refused c profile slots cards m look list e counting =
-    let some : m ≢ 0 = λ z. refused-some _ _ c.enum_told-1.given.1 (look.number ∙ z) in
+    let some : m ≢ 0 = λ z. refused-some _ _ c.in-Refused.is (look.number ∙ z) in
     renumbered _ (sym (number-stays m _ some)) look
 
 pub is_right-requires : goal.is_right-requires

@@ -17,7 +17,7 @@ use Rattle.slots.specs.Windows.{window, count}
 use Rattle.slots.proofs.Windows.{double, window-left, window-right, window-all}
 use Rattle.slots.proofs.Counts.{count-window}
 use Rattle.rules.specs.Shares.{Shares, Lawful}
-use Rattle.rules.specs.SharingOut.{Fraction, less, least, left_share, plan, share_out}
+use Rattle.rules.specs.SharingOut.{formula6, Fraction, less, least, left_share, plan, share_out}
 use Rattle.rules.specs.Readings.{Limits}
 
 -- the counts of a plan add up, one for each segment
@@ -91,8 +91,8 @@ module _ (S : Shares) (L : Lawful S) where
   left-fits l f ws h k =
       either (Fit a b (length ws)) (eqb (f + total ws) 0) (even-fits a b (length ws) lo hi)
       (least_fits a b (length ws) _ (mul-le-mul_left (2 ^ l) (omega (arith, fair (suc l) h))) lo hi
-      (least-from _ (max a (length ws - b)) (min b (length ws - a) - max a (length ws - b))).0
-      (least-from _ (max a (length ws - b)) (min b (length ws - a) - max a (length ws - b))).1)
+      (least-from (formula6 (64 * 2 ^ l) f ws) (max a (length ws - b)) (min b (length ws - a) - max a (length ws - b))).0
+      (least-from (formula6 (64 * 2 ^ l) f ws) (max a (length ws - b)) (min b (length ws - a) - max a (length ws - b))).1)
     where
       a : ℕ
       a = 2 ^ l * S.low (suc l)

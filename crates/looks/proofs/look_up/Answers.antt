@@ -17,8 +17,9 @@ use Rattle.demands.proofs.Refusals.CheckCases.{lookup-passed}
 use Rattle.answers.proofs.Replies.{looked-zero, looked-live, looked-absent}
 use Rattle.looks.proofs.Passed.{can-seek, sought, found-live, cards-long, card-there}
 use Rattle.looks.proofs.look_up.Goals as goal
+use Rattle.looks.proofs.look_up.Goals.{After-place_in-place, Start}
 
-module _ (s : goal.Start) where
+module _ (s : Start) where
   abbrev L : Lent
   L = lend s.args.list.now s.args.cards.now s.args.table.now
 
@@ -36,7 +37,7 @@ pub seek-segment-requires : goal.seek-segment-requires
 seek-segment-requires c = can-seek c.requires.0 (L (goal.at.seek-segment-requires c).Start) c.requires.1
 
 -- where the search ends, and what the slot there tells
-module _ (c : goal.After-place_in-place) where
+module _ (c : After-place_in-place) where
   ends : c.seek-segment.result ≡ seat (key c.before.before.before.before.before.before) (ss c.before.before.before.before.before.before)
   ends = sought c.requires.0 (L c.before.before.before.before.before.before) c.requires.1 (key c.before.before.before.before.before.before) c.seek-segment.result c.seek-segment.ensures.place
 

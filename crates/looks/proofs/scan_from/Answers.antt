@@ -19,8 +19,9 @@ use Rattle.looks.specs.Past.{Past}
 use Rattle.looks.proofs.KeysAbove.{Tells, wrote-admits}
 use Rattle.looks.proofs.Passed.{indexed, can-seek, sought, cards-beside, cards-long}
 use Rattle.looks.proofs.scan_from.Goals as goal
+use Rattle.looks.proofs.scan_from.Goals.{After-past-at, Start}
 
-module _ (s : goal.Start) where
+module _ (s : Start) where
   abbrev L : Lent
   L = lend s.args.list.now s.args.cards.now s.args.table.now
 
@@ -43,7 +44,7 @@ pub seek-segment-requires : goal.seek-segment-requires
 seek-segment-requires c = can-seek c.requires.0 (L (goal.at.seek-segment-requires c).Start) c.requires.1
 
 -- where the search ends, and where the keys above begin
-module _ (c : goal.After-past-at) where
+module _ (c : After-past-at) where
   abbrev first : ℕ
   first = c.seek-segment.result
 

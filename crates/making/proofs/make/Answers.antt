@@ -26,6 +26,7 @@ use Rattle.answers.specs.Answers.{make_number}
 use Rattle.answers.specs.Admits.{MakeAdmits}
 use Rattle.answers.proofs.Replies.{make-unknown, make-refused, make-wrong-cards, make-wrong-table, make-done}
 use Rattle.making.proofs.make.Goals as goal
+use Rattle.making.proofs.make.Goals.{Else-height_of-eq0, Else-not-is_profile}
 
 -- what is told, given back and left is what the rules make of it
 admits : (profile : ℕ) (L : Lent) (a : MakeAnswer) (r : MakeReply) (left : Lent) → r ≡ record { forecast = forecast_of []; answer = a }
@@ -48,14 +49,14 @@ pub returns-then-not-is_profile : goal.returns-then-not-is_profile
 returns-then-not-is_profile c = admits _ _ _ _ _ c.told.ensures (make-unknown _ _ (sym c.is_profile.ensures ∙ c.if-not-is_profile.true))
 
 -- the profile is known
-known : (c : goal.Else-not-is_profile) → is_profile c.args.profile ≡ true
+known : (c : Else-not-is_profile) → is_profile c.args.profile ≡ true
 known c = sym c.is_profile.ensures ∙ c.if-not-is_profile.false
 
 pub returns-then-height_of-eq0 : goal.returns-then-height_of-eq0
 returns-then-height_of-eq0 c = admits _ _ _ _ _ c.told-then-height_of-eq0.ensures (make-refused _ _ (known (goal.at.returns-then-height_of-eq0 c).Else-not-is_profile) (sym c.height_of.ensures.0 ∙ c.if-height_of-eq0.true))
 
 -- and so is the length
-high : (c : goal.Else-height_of-eq0) → height_of (length c.args.list.now) ≢ 0
+high : (c : Else-height_of-eq0) → height_of (length c.args.list.now) ≢ 0
 high c e = absurd (omega (arith, c.if-height_of-eq0.false, c.height_of.ensures.0))
 
 pub returns-then-cards-n : goal.returns-then-cards-n

@@ -35,8 +35,8 @@ loop-i-preserved c =
 pub returns : goal.returns
 returns c =
     let L = c.loop-i in
-    let e : length (used_cells c.args.t3) ≤ L.i = omega (arith, cells-used c.args.t3 c.requires.tidy) in
+    let e : length (used_cells c.args.f) ≤ L.i = omega (arith, cells-used c.args.f c.requires.tidy) in
     record {
       range = omega arith;
-      marks = λ ss q. rw (take_all L.i (used_cells c.args.t3) e) at (L.invariant.3 ss q).marked;
+      marks = λ ss q. rw (take_all L.i (used_cells c.args.f) e) at (L.invariant.3 ss q).marked;
     }

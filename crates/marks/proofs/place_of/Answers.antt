@@ -6,9 +6,10 @@ use Rattle.slots.specs.Keys.{below}
 use Rattle.marks.specs.Marking.{after, Asked}
 use Rattle.marks.proofs.Standing.{place_same, place-more, place-less}
 use Rattle.marks.proofs.place_of.Goals as goal
+use Rattle.marks.proofs.place_of.Goals.{After-position}
 
 -- what the keys before and the keys below come to, with the request done
-module _ (P : goal.After-position) where
+module _ (P : After-position) where
   abbrev b : ℕ
   b = P.keys_in.result
 
@@ -47,13 +48,13 @@ pub overflow_add-p : goal.overflow_add-p
 overflow_add-p c = omega (arith, few (goal.at.overflow_add-p c).After-position)
 
 pub returns-then-marker-w : goal.returns-then-marker-w
-returns-then-marker-w c = λ ss q m. same c.before.before ss q m c.if-marker-w.true
+returns-then-marker-w c = λ ss q m. same (goal.at.returns-then-marker-w c).After-position ss q m c.if-marker-w.true
 
 pub overflow_add-result : goal.overflow_add-result
 overflow_add-result c = omega (arith, few (goal.at.overflow_add-result c).After-position)
 
 pub returns-then-w : goal.returns-then-w
-returns-then-w c = λ ss q m. more c.before.before.before ss q m c.if-w.true c.if-marker-w.false
+returns-then-w c = λ ss q m. more (goal.at.returns-then-w c).After-position ss q m c.if-w.true c.if-marker-w.false
 
 pub returns : goal.returns
-returns c = λ ss q m. omega (arith, few (goal.at.returns c).After-position, less c.before.before.before.before ss q m c.if-w.false c.if-marker-w.false)
+returns c = λ ss q m. omega (arith, few (goal.at.returns c).After-position, less (goal.at.returns c).After-position ss q m c.if-w.false c.if-marker-w.false)

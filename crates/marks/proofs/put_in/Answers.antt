@@ -4,9 +4,10 @@ use Rattle.lists.specs.Lists.{insert_at}
 use Rattle.lists.proofs.Overwritten.{written_from, written-more, written-ahead}
 use Rattle.lists.proofs.Inserted.{take-before, take_inserted, length_inserted, at_place, past-place}
 use Rattle.marks.proofs.put_in.Goals as goal
+use Rattle.marks.proofs.put_in.Goals.{Start}
 
 -- the length with one more
-longer : (s : goal.Start) → length (insert_at s.args.k s.args.v s.args.xs.now) ≡ suc (length s.args.xs.now)
+longer : (s : Start) → length (insert_at s.args.k s.args.v s.args.xs.now) ≡ suc (length s.args.xs.now)
 longer s = length_inserted s.args.v s.args.k s.args.xs.now (omega arith)
 
 pub loop-i-init : goal.loop-i-init

@@ -13,18 +13,19 @@ use Rattle.aims.specs.Aims.{Stands}
 use Rattle.aims.proofs.Standing.{small-stands}
 use Rattle.opening.proofs.Ready.{ready-passes, ready-stands, ready-ends, ready-index, ready-cards}
 use Rattle.opening.proofs.work_lent.Goals as goal
+use Rattle.opening.proofs.work_lent.Goals.{After-shape-1}
 
 pub returns-in-Refused : goal.returns-in-Refused
 returns-in-Refused c =
     let look = c.look_lent-listing in
-    let some = refused-some look.result.verdict _ c.enum_told-1.given.1 in
+    let some = refused-some look.result.verdict _ c.in-Refused.is in
     record {
       refused = λ n. record { tally = c.none.ensures; stop = look.ensures.number; last = look.ensures.number; forecast = refl; lent-left = refl };
       ended = λ e. absurd (some (look.ensures.number ∙ e));
     }
 
 -- the check accepts
-module _ (c : goal.After-shape-1) where
+module _ (c : After-shape-1) where
   abbrev number : ℕ
   number = c.args.profile
 
@@ -41,7 +42,7 @@ module _ (c : goal.After-shape-1) where
   looked = c.look_lent-listing.ensures
 
   accepted : listing.verdict ≡ Accepted
-  accepted = c.enum_told-in_default-1.given.1
+  accepted = c.in-Refused.is
 
   stands : Stands given.slots told listing.shape listing.keys
   stands = ready-stands number given told listing looked accepted

@@ -13,14 +13,15 @@ use Rattle.scans.proofs.Pages.{halfway-none, halfway-later, halfway-more, page-f
 use Rattle.scans.proofs.Stretches.{stretch-first, stretch-next, none_after}
 use Rattle.scans.proofs.write_keys.Invariants.{Counted}
 use Rattle.scans.proofs.write_keys.Goals as goal
+use Rattle.scans.proofs.write_keys.Goals.{Start}
 
 -- the counts are those of the segments
 -- a segment of the list has 64 keys at most
-few : (c : goal.Start) (k : ℕ) → 64 * k + 64 ≤ length c.args.list.now → get_or c.args.counts.now k 0 ≤ 64
+few : (c : Start) (k : ℕ) → 64 * k + 64 ≤ length c.args.list.now → get_or c.args.counts.now k 0 ≤ 64
 few c k h = c.requires.first_in_bounds.3 k (omega arith)
 
 -- the keys begin with a stretch of the first segment, and go on with those of the next
-module _ (c : goal.Start) where
+module _ (c : Start) where
   abbrev slots : List ℕ
   slots = c.args.list.now
 
@@ -87,7 +88,7 @@ returns-then-left-n c =
           (simp length-drop (omega arith)) _ _ _ full more copies.slots;
       cards = λ f ss sh e k.
           cards-written f (keys_from a.first a.at ss)
-          (page-full (map f (keys_from a.first a.at ss)) a.output_cards.now l.output-cards (map f (keys (drop l.s ss))) (drop l.a a.cards.now) l.w l.n (l.invariant.6 f ss sh e k)
+          (page-full (map f (keys_from a.first a.at ss)) a.output_cards.now l.output_cards (map f (keys (drop l.s ss))) (drop l.a a.cards.now) l.w l.n (l.invariant.6 f ss sh e k)
           (simp length-drop (omega arith)) _ _ _ full more copies.cards);
     }
 
@@ -111,7 +112,7 @@ returns-then-list-s c =
       cards = λ f ss sh e k.
           cards-written f (keys_from a.first a.at ss)
           (page-ended _
-          (halfway-more (map f (keys_from a.first a.at ss)) a.output_cards.now l.output-cards (map f (keys (drop l.s ss))) (drop l.a a.cards.now) l.w l.n (l.invariant.6 f ss sh e k)
+          (halfway-more (map f (keys_from a.first a.at ss)) a.output_cards.now l.output_cards (map f (keys (drop l.s ss))) (drop l.a a.cards.now) l.w l.n (l.invariant.6 f ss sh e k)
           (simp length-drop (omega arith)) _ copies.cards) (ap (map f) (none_after ss a.list.now sh l.s c.if-list-s.true)) fits);
     }
 
@@ -135,7 +136,7 @@ loop-n-preserved c =
           _ _ (goes_on (goal.at.loop-n-preserved c).Start l.s h ss sh e),
       λ f ss sh e k.
           halfway-later
-          (halfway-more (map f (keys_from a.first a.at ss)) a.output_cards.now l.output-cards (map f (keys (drop l.s ss))) (drop l.a a.cards.now) l.w l.n (l.invariant.6 f ss sh e k)
+          (halfway-more (map f (keys_from a.first a.at ss)) a.output_cards.now l.output_cards (map f (keys (drop l.s ss))) (drop l.a a.cards.now) l.w l.n (l.invariant.6 f ss sh e k)
           (simp length-drop (omega arith)) _ copies.cards)
           _ _ (cards-go-on (goal.at.loop-n-preserved c).Start f k l.s h ss sh e),
     )

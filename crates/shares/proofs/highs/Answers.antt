@@ -4,7 +4,7 @@ use Rattle.shares.proofs.Tables.{high-told}
 use Rattle.shares.proofs.highs.Goals as goal
 
 pub returns-in-First : goal.returns-in-First
-returns-in-First c = rw c.enum_told-1.given.1 (high-told First c.args.h c.requires)
+returns-in-First c = rw c.in-First.is (high-told First c.args.h c.requires)
 
 pub returns-in-Second : goal.returns-in-Second
-returns-in-Second c = rw c.enum_told-in-Second-1.given.1 (high-told Second c.args.h c.requires)
+returns-in-Second c = rw c.in-Second.is (high-told Second c.args.h c.requires)

@@ -5,13 +5,14 @@ use Rattle.gaps.proofs.Natural.{closed-kept}
 use Rattle.sowing.specs.Sown.{Planted}
 use Rattle.sowing.proofs.Sown.{sized, counts-fit, room, keys-few, up_to, put_in, among, taken_out}
 use Rattle.sowing.proofs.sow.Goals as goal
+use Rattle.sowing.proofs.sow.Goals.{After-pack-m, Start}
 
 -- what is given at the entry
-abbrev given : (s : goal.Start) → Planted s.args.window.now s.args.counts.now s.args.plan.now s.args.p s.args.key s.args.grows
+abbrev given : (s : Start) → Planted s.args.window.now s.args.counts.now s.args.plan.now s.args.p s.args.key s.args.grows
 given s = s.requires.planted
 
 -- once the keys are packed
-module _ (c : goal.After-pack-m) where
+module _ (c : After-pack-m) where
   abbrev packed : Packed c.args.counts.now c.args.window.now c.pack-m.result c.pack-m.new.window
   packed = c.pack-m.ensures.keys
 

@@ -18,10 +18,7 @@ unfolding gather
 loop-s-init c = (omega arith, omega arith, refl, refl, refl, refl, refl, λ f h. h)
 
 pub move_left-requires : goal.move_left-requires
-move_left-requires c = omega record {
-  to_le_from = arith;
-  cards_len = c.requires.by_index c.loop-s.s;
-}
+move_left-requires c = record { to_le_from = omega (arith, c.requires.by_index c.loop-s.s); cards_len = omega (arith, c.requires.by_index c.loop-s.s) }
 
 pub overflow_add-at : goal.overflow_add-at
 overflow_add-at c = omega (arith, c.requires.by_index c.loop-s.s)

@@ -25,20 +25,13 @@ pub lay_in-requires : goal.lay_in-requires
 lay_in-requires c =
     let cs = c.args.counts.now in
     let s = c.loop-s.s in
-    let fits = c.requires.by_index in
-    omega record {
-      at_le_to = arith;
-      cards_len = (total-pred cs s (omega arith) (omega arith), total-bound cs (s - 1) fits, fits (s - 1));
-    }
+    let fits = c.requires.by_index in record { at_le_to = omega (arith, total-pred cs s (omega arith) (omega arith), total-bound cs (s - 1) fits, fits (s - 1)); cards_len = omega (arith, total-pred cs s (omega arith) (omega arith), total-bound cs (s - 1) fits, fits (s - 1)) }
 
 pub overflow_add-to : goal.overflow_add-to
 overflow_add-to c = omega (arith, c.requires.by_index (c.loop-s.s - 1))
 
 pub clear-requires : goal.clear-requires
-clear-requires c = omega record {
-  a_le_e = arith;
-  cards_len = c.requires.by_index (c.loop-s.s - 1);
-}
+clear-requires c = record { a_le_e = omega (arith, c.requires.by_index (c.loop-s.s - 1)); cards_len = omega (arith, c.requires.by_index (c.loop-s.s - 1)) }
 
 pub loop-s-preserved : goal.loop-s-preserved
 loop-s-preserved c =

@@ -5,9 +5,10 @@ use native.Mathlib.Omega.{arith}
 use Rattle.strays.specs.Blanks.{Gathers}
 use Rattle.strays.proofs.Gathered.{gathers-before}
 use Rattle.strays.proofs.together.Goals as goal
+use Rattle.strays.proofs.together.Goals.{Joined-c-le32}
 
 -- where the ways meet: the cards from n on are gathered, and n is not past the sixteen from `c` on
-gathered : (j : goal.Joined-c-le32) → let s = j.args in
+gathered : (j : Joined-c-le32) → let s = j.args in
     (n : ℕ) × (s.c ≤ n) × (n ≤ s.c + 16) × Gathers s.cards.now n 64 s.l j.if-c-le32.all
 gathered j =
     let s = j.args in

@@ -19,17 +19,18 @@ use Rattle.shares.specs.Rows.{shares_at}
 use Rattle.sweeps.specs.Acts.{Acting, Noted}
 use Rattle.sweeps.proofs.PlanFor.{level-small, planned, first-few, lent, marking, front-small, part, plan-back}
 use Rattle.sweeps.proofs.plan_sweep.Goals as goal
+use Rattle.sweeps.proofs.plan_sweep.Goals.{After-front_weight-front, After-power-n, After-whole-part, Start}
 
 -- the rows are arrays of seven
-rows_long : (s : goal.Start) → (length s.args.shape.lows ≡ 7) × (length s.args.shape.highs ≡ 7)
+rows_long : (s : Start) → (length s.args.shape.lows ≡ 7) × (length s.args.shape.highs ≡ 7)
 rows_long s = (search rules, search rules)
 
 -- a part of the buffer is lent
-buffer : (s : tie.Start) {n : ℕ} → n ≤ 64 → length (take n s.args.plan.now) ≡ n
-buffer s {n} h = length-take-le n s.args.plan.now (omega (arith, s.requires.1.1))
+buffer : (s : Start) {n : ℕ} → n ≤ 64 → length (take n s.args.plan.now) ≡ n
+buffer s {n} h = length-take-le n s.args.plan.now (omega (arith, s.requires.le_level.1))
 
 -- the window
-module _ (c : goal.After-power-n) where
+module _ (c : After-power-n) where
   abbrev n : ℕ
   n = c.power-n.result
 
@@ -37,7 +38,7 @@ module _ (c : goal.After-power-n) where
   first = c.args.aim.segment / c.power-n.result * c.power-n.result
 
 -- its marks, with any forecast and bounds that the request was aimed with
-module _ (c : goal.After-front_weight-front) where
+module _ (c : After-front_weight-front) where
   abbrev at : List ℕ
   at = take c.mark-r.result c.mark-r.new.at
 
@@ -53,14 +54,14 @@ module _ (c : goal.After-front_weight-front) where
     marked = c.mark-r.ensures.marks (segments_of c.args.list.now) (marking A c.requires.le_level.0 c.power-n.ensures.0 refl N)
 
 -- the window with its marks as one part
-module _ (c : goal.After-whole-part) where
+module _ (c : After-whole-part) where
   module _ {F : Forecast} {bounds : List ℕ}
       (A : Acting (s f).args.list.now F bounds (s f).args.table.now (s f).args.shape (s f).args.aim)
       (N : Noted (s f).args.list.now F (s f).args.shape (s f).args.aim (s f).args.forecast) where
     whole : PartOf (ws c.before.before) (at c.before.before) (weights c.before.before) c.whole-part.result
     whole =
         subst (PartOf (ws c.before.before) (at c.before.before) (weights c.before.before)) (sym c.whole-part.ensures)
-        (part A (s f).pre.1.0 c.power-n.ensures.0 refl N c.front_weight-front.ensures (marked f A N))
+        (part A (s f).pre.1.0 c.power-n.ensures.0 refl N c.front_weight-front.ensures (marked c.before.before A N))
 
 pub power-n-requires : goal.power-n-requires
 power-n-requires c = level-small c.requires.by_index.2 c.requires.le_level.0
@@ -82,7 +83,7 @@ slice_bounds-whole-end c = sym (length-take-le _ _ (search rules))
 pub whole-part-requires : goal.whole-part-requires
 whole-part-requires c =
     let s = s d in
-    let m = marked d s.pre.0.2 s.pre.0.3 in
+    let m = marked (goal.at.whole-part-requires c).After-front_weight-front s.pre.0.2 s.pre.0.3 in
     (omega (arith, m.few, m.same), m.small, front-small s.pre.0.2 s.pre.1.0 c.power-n.ensures.0 refl s.pre.0.3 c.front_weight-front.ensures)
 
 pub slice_bounds-plan_window-end : goal.slice_bounds-plan_window-end
@@ -106,7 +107,7 @@ plan_window-requires c =
     let s = s p in
     let long : length (take p.power.result s.args.plan.now) ≡ 2 ^ s.args.aim.level = buffer s p.power.ensures.1 ∙ p.power.ensures.0 in
     let keys : c.whole-part.result.keys ≡ s.args.aim.moves = ap (λ (q : Part). q.keys) c.whole-part.ensures in record {
-      by_index = (ws (goal.at.plan_window-requires c).After-front_weight-front, whole d s.pre.0.2 s.pre.0.3);
+      by_index = (ws (goal.at.plan_window-requires c).After-front_weight-front, whole (goal.at.plan_window-requires c).After-whole-part s.pre.0.2 s.pre.0.3);
       rows = (
         shares_at s.args.shape,
         s.pre.0.2.stands.shape.rows,
@@ -122,5 +123,5 @@ returns c =
     let done = c.plan_window.ensures in record {
       range = search rules;
       plan = λ F bounds A N. plan-back A s.pre.1.0 size refl N c.front_weight-front.ensures (weights (goal.at.returns c).After-front_weight-front) _ _ c.whole-part.ensures (done.range ∙ buffer s p.power.ensures.1)
-          (done.counts (shares_at s.args.shape) (ws (goal.at.returns c).After-front_weight-front) (planned A s.pre.1.0 _ size).level A.stands.shape.rows (whole d A N));
+          (done.counts (shares_at s.args.shape) (ws (goal.at.returns c).After-front_weight-front) (planned A s.pre.1.0 _ size).level A.stands.shape.rows (whole (goal.at.returns c).After-whole-part A N));
     }

@@ -5,9 +5,10 @@ use lib.ListN.{length}
 use Rattle.seats.proofs.Indexes.{few-segments, table-many, table-holds}
 use Rattle.sweeps.proofs.Recounted.{recount-asks, recounted}
 use Rattle.sweeps.proofs.recount.Goals as goal
+use Rattle.sweeps.proofs.recount.Goals.{Start}
 
 -- the plan's places are in the table
-ends : (s : goal.Start) → s.args.first + length s.args.plan.now ≤ 64
+ends : (s : Start) → s.args.first + length s.args.plan.now ≤ 64
 ends s = omega (arith, s.requires.0.4, few-segments s.requires.0.3)
 
 pub keep-requires : goal.keep-requires

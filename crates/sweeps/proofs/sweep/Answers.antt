@@ -11,9 +11,10 @@ use Rattle.seats.proofs.Indexes.{few-segments, count_small}
 use Rattle.sweeps.specs.Acts.{Acting}
 use Rattle.sweeps.proofs.SweptLeft.{level-low, at-few, from, to, ends, slots_lent, counts-lent, fits, planted, swept-left}
 use Rattle.sweeps.proofs.sweep.Goals as goal
+use Rattle.sweeps.proofs.sweep.Goals.{After-power-n}
 
 -- the window, once its size is known
-module _ (c : goal.After-power-n) where
+module _ (c : After-power-n) where
   abbrev first : ℕ
   first = c.args.aim.segment / c.power-n.result * c.power-n.result
 

@@ -3,10 +3,10 @@ use mathlib.Core.Path.{refl, sym}
 use Rattle.telling.proofs.delete_told.Goals as goal
 
 pub returns-in-Refused : goal.returns-in-Refused
-returns-in-Refused c = rw (c.answer-1.given.1, sym c.refusal_number.ensures) c.number_alone.ensures
+returns-in-Refused c = rw (c.in-Refused.is, sym c.refusal_number.ensures) c.number_alone.ensures
 
 pub returns-in-Deleted : goal.returns-in-Deleted
-returns-in-Deleted c = rw c.answer-in-Deleted-1.given.1 refl
+returns-in-Deleted c = rw c.in-Deleted.is refl
 
 pub returns-in-DeletedSparse : goal.returns-in-DeletedSparse
-returns-in-DeletedSparse c = rw c.answer-in-DeletedSparse-1.given.1 refl
+returns-in-DeletedSparse c = rw c.in-DeletedSparse.is refl

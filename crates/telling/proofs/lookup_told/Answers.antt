@@ -3,10 +3,10 @@ use mathlib.Core.Path.{refl, sym}
 use Rattle.telling.proofs.lookup_told.Goals as goal
 
 pub returns-in-Refused : goal.returns-in-Refused
-returns-in-Refused c = rw (c.answer-1.given.1, sym c.refusal_number.ensures) c.number_alone.ensures
+returns-in-Refused c = rw (c.in-Refused.is, sym c.refusal_number.ensures) c.number_alone.ensures
 
 pub returns-in-Present : goal.returns-in-Present
-returns-in-Present c = rw c.answer-in-Present-1.given.1 refl
+returns-in-Present c = rw c.in-Present.is refl
 
 pub returns-in-Absent : goal.returns-in-Absent
-returns-in-Absent c = rw c.enum_told-1.given.1 c.number_alone-in-Absent.ensures
+returns-in-Absent c = rw c.in-Absent.is c.number_alone-in-Absent.ensures

@@ -3,10 +3,10 @@ use Rattle.aims.proofs.Answers.{aimed-bad}
 use Rattle.aims.proofs.aiming.aim.Goals as goal
 
 pub returns-in-Insert : goal.returns-in-Insert
-returns-in-Insert c F s = rw c.request-1.given.1 (c.aim_in.ensures F s)
+returns-in-Insert c F s = rw c.in-Insert.is (c.aim_in.ensures F s)
 
 pub returns-in-Delete : goal.returns-in-Delete
-returns-in-Delete c F s = rw c.request-in-Delete-1.given.1 (c.aim_out.ensures F s)
+returns-in-Delete c F s = rw c.in-Delete.is (c.aim_out.ensures F s)
 
 pub returns-in-Bad : goal.returns-in-Bad
-returns-in-Bad c F s = rw (c.refuse.ensures, c.enum_told-1.given.1) (aimed-bad _ _)
+returns-in-Bad c F s = rw (c.refuse.ensures, c.in-Bad.is) (aimed-bad _ _)

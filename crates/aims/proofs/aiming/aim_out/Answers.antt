@@ -7,6 +7,7 @@ use Rattle.aims.proofs.Standing.{climb-asks}
 use Rattle.aims.proofs.Places.{place_in, place-held}
 use Rattle.aims.proofs.AimedOut.{out-zero, out-absent, out-under, out-shifted, out-keeps, out-unswept, out-swept}
 use Rattle.aims.proofs.aiming.aim_out.Goals as goal
+use Rattle.aims.proofs.aiming.aim_out.Goals.{Else-not-place}
 
 pub returns-then-key-eq0 : goal.returns-then-key-eq0
 returns-then-key-eq0 c F s = rw c.refuse.ensures (out-zero s c.if-key-eq0.true)
@@ -19,7 +20,7 @@ returns-then-not-place c F s =
     rw c.refuse-then-not-place.ensures (out-absent s c.if-key-eq0.false c.spot-spot.ensures c.if-not-place.true)
 
 -- the key's place is below the number of keys there
-under : (c : goal.Else-not-place) → c.spot-spot.result.place.at < c.spot-spot.result.place.held
+under : (c : Else-not-place) → c.spot-spot.result.place.at < c.spot-spot.result.place.held
 under c =
     out-under c.requires.stands c.if-key-eq0.false c.spot-spot.ensures c.if-not-place.false
 

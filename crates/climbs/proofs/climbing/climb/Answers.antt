@@ -16,9 +16,10 @@ use Rattle.levels.proofs.Tables.{length-table}
 use Rattle.shares.specs.Rows.{shares_at}
 use Rattle.climbs.proofs.Grown.{way_in, way-few, way-least, way-count, tried-more, climbed-here, climbed-none}
 use Rattle.climbs.proofs.climbing.climb.Goals as goal
+use Rattle.climbs.proofs.climbing.climb.Goals.{Else-h-level}
 
 -- the next window: its size, and its entry
-module _ (c : goal.Else-h-level) where
+module _ (c : Else-h-level) where
   abbrev h : ℕ
   h = c.args.shape.height
 
@@ -92,7 +93,7 @@ loop-level-preserved c =
       next-size (goal.at.loop-level-preserved c).Else-h-level,
       L.invariant.2,
       up (goal.at.loop-level-preserved c).Else-h-level,
-      λ ss new e t g. tried-more (shares_at a.shape) a.seg (set ss a.seg new) L.level _ (many (goal.at.loop-level-preserved c).Else-h-level ss new e t g) (sym c.if-fits.false ∙ c.fits2.ensures) (L.invariant.4 ss new e t g),
+      λ ss new e t g. tried-more (shares_at a.shape) a.seg (set ss a.seg new) L.level _ (many (goal.at.loop-level-preserved c).Else-h-level ss new e t g) (sym c.if-fits.false ∙ c.fits.ensures) (L.invariant.4 ss new e t g),
     )
 
 pub returns-then-h-level : goal.returns-then-h-level
@@ -109,5 +110,5 @@ returns-then-fits c =
     let a = c.args in
     let L = c.loop-level in record {
       range = (omega arith, rw (up (goal.at.returns-then-fits c).Else-h-level) (omega (arith, few (goal.at.returns-then-fits c).Else-h-level)));
-      window = λ ss new e t g. climbed-here (shares_at a.shape) a.seg (set ss a.seg new) L.level _ (omega arith) (many (goal.at.returns-then-fits c).Else-h-level ss new e t g) (sym c.if-fits.true ∙ c.fits2.ensures) (L.invariant.4 ss new e t g);
+      window = λ ss new e t g. climbed-here (shares_at a.shape) a.seg (set ss a.seg new) L.level _ (omega arith) (many (goal.at.returns-then-fits c).Else-h-level ss new e t g) (sym c.if-fits.true ∙ c.fits.ensures) (L.invariant.4 ss new e t g);
     }

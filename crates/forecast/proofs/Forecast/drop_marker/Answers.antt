@@ -13,12 +13,12 @@ mod Lemmas
 
 pub loop-i-init : goal.loop-i-init
 loop-i-init c =
-    let b = begun c.args.t1 c.requires _ c.if-at-used.true in
+    let b = begun c.args.self c.requires _ c.if-at-used.true in
     (omega arith, omega arith, b.0, b.1, b.2)
 
 pub loop-i-preserved : goal.loop-i-preserved
 loop-i-preserved c =
-    let f = c.args.t1 in
+    let f = c.args.self in
     let i = c.loop-i.i in
     let at = c.first_of-at.result in
     let inv = c.loop-i.invariant in
@@ -39,10 +39,10 @@ returns-then-at-used c =
     let a = c.first_of-at in
     let i = c.loop-i.i in
     let inv = c.loop-i.invariant in
-    let e : i ≡ c.args.t1.used - 1 = omega arith in
-    gone c.args.t1 c.requires c.args.marker a.result a.ensures c.if-at-used.true c.loop-i.self i e inv.2 inv.3 inv.4
+    let e : i ≡ c.args.self.used - 1 = omega arith in
+    gone c.args.self c.requires c.args.marker a.result a.ensures c.if-at-used.true c.loop-i.self i e inv.2 inv.3 inv.4
 
 pub returns : goal.returns
 returns c =
     let a = c.first_of-at in
-    kept c.args.t1 c.requires c.args.marker a.result a.ensures c.if-at-used.false
+    kept c.args.self c.requires c.args.marker a.result a.ensures c.if-at-used.false

@@ -6,14 +6,14 @@ use Rattle.slots.specs.Keys.{segment_of}
 use Rattle.forecast.proofs.Stepping.{segments-row}
 use Rattle.forecast.proofs.Forecast.retarget.Answers.Lemmas.{tidy-aimed, marked, unaimed, aim-more, aimed-all}
 use Rattle.forecast.proofs.Forecast.retarget.Goals as goal
-mod Lemmas
+pub mod Lemmas
 
 pub loop-i-init : goal.loop-i-init
-loop-i-init c = (omega arith, refl, c.requires.tidy, refl, refl, λ ss ls some few bs lv el. segments-row c.args.t1 c.requires.tidy)
+loop-i-init c = (omega arith, refl, c.requires.tidy, refl, refl, λ ss ls some few bs lv el. segments-row c.args.self c.requires.tidy)
 
 pub loop-i-preserved : goal.loop-i-preserved
 loop-i-preserved c =
-    let f = c.args.t1 in
+    let f = c.args.self in
     let t = c.requires.tidy in
     let i = c.loop-i.i in
     let g = c.loop-i.self in
@@ -32,4 +32,4 @@ loop-i-preserved c =
 pub returns : goal.returns
 returns c =
     let inv = c.loop-i.invariant in
-    (inv.2, λ ss ls some few bs lv el. aimed-all c.args.t1 c.requires.tidy (segment_of ss) c.loop-i.i (omega arith) c.loop-i.self inv.1 inv.3 inv.4 (inv.5 ss ls some few bs lv el))
+    (inv.2, λ ss ls some few bs lv el. aimed-all c.args.self c.requires.tidy (segment_of ss) c.loop-i.i (omega arith) c.loop-i.self inv.1 inv.3 inv.4 (inv.5 ss ls some few bs lv el))

@@ -12,12 +12,12 @@ use Rattle.forecast.proofs.Forecast.weight_of.Goals as goal
 pub returns-then-at-used : goal.returns-then-at-used
 returns-then-at-used c =
     let a = c.first_of-at in
-    let f = c.args.t1 in
+    let f = c.args.self in
     c.wide.ensures ∙ count-is f c.requires a.result ∙ sym (weight-at (used_cells f) c.args.marker a.result (sym (a.ensures ∙ place_is f c.requires c.args.marker)))
 
 pub returns : goal.returns
 returns c =
     let a = c.first_of-at in
-    let f = c.args.t1 in
+    let f = c.args.self in
     let h : length (used_cells f) ≤ cell_at c.args.marker (used_cells f) = omega (arith, cells-used f c.requires, a.ensures ∙ place_is f c.requires c.args.marker) in
     sym (weight-none (used_cells f) c.args.marker h)

@@ -12,17 +12,18 @@ use Rattle.rules.specs.Calls.{lookup}
 use Rattle.checks.proofs.Numbers.{refused-some}
 use Rattle.demands.proofs.Refusals.CheckCases.{lookup-refused}
 use Rattle.list.proofs.calls.lookup.Goals as goal
+use Rattle.list.proofs.calls.lookup.Goals.{In_default}
 
 -- where the check refuses, a lookup tells the number
 refused-told : (profile : ℕ) (L : Lent) (y : ℕ) (v : Verdict) (x : Refusal) → verdict_number v ≡ check_read profile L → v ≡ Refused x → not_found (refusal_number x) ≡ lookup profile L y
 refused-told profile L y v x z e = sym (lookup-refused profile L y (λ n. refused-some v x e (z ∙ n)) ∙ ap not_found (sym z ∙ ap verdict_number e))
 
 pub returns-in-Refused : goal.returns-in-Refused
-returns-in-Refused c = record { answer = refused-told _ _ _ _ _ c.look_read-verdict.ensures.number c.verdict-1.given.1 }
+returns-in-Refused c = record { answer = refused-told _ _ _ _ _ c.look_read-verdict.ensures.number c.in-Refused.is }
 
 -- where the check accepts, list, cards and table pass in their profile
-passes : (c : goal.In_default) → let a = c.args in check_read a.profile (lend a.list.now a.cards.now a.table.now) ≡ 0
-passes c = sym c.look_read-verdict.ensures.number ∙ ap verdict_number c.enum_told-1.given.1
+passes : (c : In_default) → let a = c.args in check_read a.profile (lend a.list.now a.cards.now a.table.now) ≡ 0
+passes c = sym c.look_read-verdict.ensures.number ∙ ap verdict_number c.in-Refused.is
 
 pub look_up-requires : goal.look_up-requires
 look_up-requires c = (_, passes (goal.at.look_up-requires c).In_default)

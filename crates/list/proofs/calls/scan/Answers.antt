@@ -5,13 +5,14 @@ use Rattle.rules.specs.Lent.{lend}
 use Rattle.rules.specs.Checks.{check_read}
 use Rattle.answers.proofs.Replies.{refused-admits}
 use Rattle.list.proofs.calls.scan.Goals as goal
+use Rattle.list.proofs.calls.scan.Goals.{In_default}
 
 pub returns-in-Refused : goal.returns-in-Refused
-returns-in-Refused c = refused-admits _ _ _ _ _ _ (sym c.look_read-verdict.ensures.number ∙ ap verdict_number c.verdict-1.given.1)
+returns-in-Refused c = refused-admits _ _ _ _ _ _ (sym c.look_read-verdict.ensures.number ∙ ap verdict_number c.in-Refused.is)
 
 -- where the check accepts, list, cards and table pass in their profile
-passes : (c : goal.In_default) → let a = c.args in check_read a.profile (lend a.list.now a.cards.now a.table.now) ≡ 0
-passes c = sym c.look_read-verdict.ensures.number ∙ ap verdict_number c.enum_told-1.given.1
+passes : (c : In_default) → let a = c.args in check_read a.profile (lend a.list.now a.cards.now a.table.now) ≡ 0
+passes c = sym c.look_read-verdict.ensures.number ∙ ap verdict_number c.in-Refused.is
 
 pub scan_from-requires : goal.scan_from-requires
 scan_from-requires c = (_, passes (goal.at.scan_from-requires c).In_default)

@@ -10,7 +10,7 @@ lent s = lend s.args.list.now s.args.cards.now s.args.table.now
 pub returns-in-Refused : goal.returns-in-Refused
 returns-in-Refused c =
     let ask = c.ask-reply in
-    record { answer = answer-refused _ _ _ (lent s) _ ask.result ask.ensures.answer _ c.verdict-1.given.1; forecast = ask.ensures.forecast; lent-left = ask.ensures.lent-left }
+    record { answer = answer-refused _ _ _ (lent s) _ ask.result ask.ensures.answer _ c.in-Refused.is; forecast = ask.ensures.forecast; lent-left = ask.ensures.lent-left }
 
 pub returns : goal.returns
 returns c =

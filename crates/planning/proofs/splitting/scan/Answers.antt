@@ -10,9 +10,10 @@ use Rattle.stretches.proofs.Looks.{best_of}
 use Rattle.stretches.proofs.Parts.{next-inside}
 use Rattle.planning.proofs.Scanning.{Stretched, scan-start, stretched, scan-ends}
 use Rattle.planning.proofs.splitting.scan.Goals as goal
+use Rattle.planning.proofs.splitting.scan.Goals.{After-reach-end}
 
 -- what is known of a stretch, whatever the window's weights are
-module _ (c : goal.After-reach-end) where
+module _ (c : After-reach-end) where
   module _ (ws : List ℕ) (d : PartOf ws c.args.at.now c.args.weights.now c.args.part) where
     abbrev Known : Type 0
     Known = Stretched c.args.c c.args.first c.args.last ws c.args.at.now c.args.weights.now c.args.part c.requires.halves.0 d c.loop-part.i c.reach-end.result c.loop-part.passed c.loop-part.found
@@ -67,8 +68,8 @@ loop-part-preserved c = (
   (omega (arith, (one (goal.at.loop-part-preserved c).After-reach-end).from, c.loop-part.invariant.0), omega (arith, (one (goal.at.loop-part-preserved c).After-reach-end).to, c.if-end-last.false)),
   c.nearest-found.ensures.range,
   λ ws d. record {
-    passed = (known r ws d).on c.if-end-last.false c.pass_one-passed.result c.pass_one-passed.ensures.0 c.pass_one-passed.ensures.1;
-    best = c.nearest-found.ensures.nearest ∙ (known r ws d).best;
+    passed = (known (goal.at.loop-part-preserved c).After-reach-end ws d).on c.if-end-last.false c.pass_one-passed.result c.pass_one-passed.ensures.0 c.pass_one-passed.ensures.1;
+    best = c.nearest-found.ensures.nearest ∙ (known (goal.at.loop-part-preserved c).After-reach-end ws d).best;
   },
 )
 
@@ -77,7 +78,7 @@ returns c =
     let a = c.args in
     let w = c.requires.by_index in
     let is : (ws : List ℕ) → PartOf ws a.at.now a.weights.now a.part → c.nearest-found.result.keys ≡ least (formula6 a.c a.part.front (weights_in ws a.part)) a.first (a.last - a.first) =
-    λ ws d. scan-ends a.c a.first a.last ws a.at.now a.weights.now a.part c.requires.halves.0 d c.nearest-found.result (c.nearest-found.ensures.nearest ∙ (known r ws d).best ∙ ap (λ (e : ℕ). best_of (formula6 a.c a.part.front (weights_in ws a.part)) a.first (e + 1 - a.first)) c.if-end-last.true) in
+    λ ws d. scan-ends a.c a.first a.last ws a.at.now a.weights.now a.part c.requires.halves.0 d c.nearest-found.result (c.nearest-found.ensures.nearest ∙ (known (goal.at.returns c).After-reach-end ws d).best ∙ ap (λ (e : ℕ). best_of (formula6 a.c a.part.front (weights_in ws a.part)) a.first (e + 1 - a.first)) c.if-end-last.true) in
     let l = least-from (formula6 a.c a.part.front (weights_in w.0 a.part)) a.first (a.last - a.first) in
     record {
       range = (omega (arith, is w.0 w.1, l.0), omega (arith, is w.0 w.1, l.1, c.requires.halves.0.some));

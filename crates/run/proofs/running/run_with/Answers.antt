@@ -4,9 +4,10 @@ use Rattle.rules.specs.Lent.{lend}
 use Rattle.run.specs.Differences.{Reading}
 use Rattle.run.proofs.Admitted.{run-opened}
 use Rattle.run.proofs.running.run_with.Goals as goal
+use Rattle.run.proofs.running.run_with.Goals.{Start}
 
 -- the totals are of 32 bits each
-reading : (s : goal.Start) → Reading s.args.totals
+reading : (s : Start) → Reading s.args.totals
 reading s = record { worked = search rules; refused = search rules; moved = search rules; sweeps = search rules }
 
 pub returns : goal.returns

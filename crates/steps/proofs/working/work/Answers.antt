@@ -27,15 +27,16 @@ use Rattle.steps.proofs.CardTurn.{Carries, cards-refused, cards-accepted}
 use Rattle.steps.proofs.MidWork.{Lent, Now, going_start, ends-whole, next, AtRecord, turning, nearer, ends-halt, OnRecord, on-record, fits, goes_on}
 use borrow.Author.Rules.{rules}
 use Rattle.steps.proofs.working.work.Goals as goal
+use Rattle.steps.proofs.working.work.Goals.{After-is_accepted-done, After-next-tally, After-shared_slice_known-1, After-struct_known-in-loop-tally-1, Joined-done, Start}
 
-roomy : (s : goal.Start) → Roomy s.args.forecast
+roomy : (s : Start) → Roomy s.args.forecast
 roomy s = record { markers = search rules; segments = search rules; counts = search rules }
 
-few : (c : goal.After-shared_slice_known-1) → length c.args.requests.now < 2 ^ 64
+few : (c : After-shared_slice_known-1) → length c.args.requests.now < 2 ^ 64
 few c = search rules
 
 -- the record at this turn, and what it comes to
-module _ (c : goal.After-struct_known-in-loop-tally-1) where
+module _ (c : After-struct_known-in-loop-tally-1) where
   abbrev lent : Lent
   lent =
       record {
@@ -83,7 +84,7 @@ module _ (c : goal.After-struct_known-in-loop-tally-1) where
   same-many = ap length at-record.going.beside ∙ beside-length at-record.going.own here.slots
 
 -- where nothing stops the run
-module _ (c : goal.After-is_accepted-done) where
+module _ (c : After-is_accepted-done) where
   on : OnRecord (lent c.before.before.before) (here c.before.before.before) (aimed c.before.before.before)
   on = on-record (at-record c.before.before.before) (sym c.halts.ensures ∙ c.if-halts.false)
 
@@ -92,7 +93,7 @@ module _ (c : goal.After-is_accepted-done) where
   acting-here e = acting (turning (at-record c.before.before.before)) (sym c.is_accepted-done.ensures ∙ e)
 
 -- where the ways meet again: what the request leaves, and nothing has another length
-module _ (c : goal.Joined-done) where
+module _ (c : Joined-done) where
   abbrev Same : Type 0
   Same =
       (length c.if-done.list ≡ length (here c.before.before.before.before).slots) × (length c.if-done.cards ≡ length (here c.before.before.before.before).cards) × (length c.if-done.table ≡ length (here c.before.before.before.before).table)
@@ -221,7 +222,7 @@ next-tally-requires c =
     }
 
 -- the counts then, by the record's bytes
-counts : (c : goal.After-next-tally) → c.next-tally.result ≡ next_of (here c.before.before.before.before.before.before).tally (aimed c.before.before.before.before.before.before) (next (lent c.before.before.before.before.before.before) (here c.before.before.before.before.before.before)).size
+counts : (c : After-next-tally) → c.next-tally.result ≡ next_of (here c.before.before.before.before.before.before).tally (aimed c.before.before.before.before.before.before) (next (lent c.before.before.before.before.before.before) (here c.before.before.before.before.before.before)).size
 counts c = c.next-tally.ensures ∙ ap (λ (z : Record). next_of (here c.before.before.before.before.before.before).tally (aimed c.before.before.before.before.before.before) z.size) (is-next c.before.before.before.before.before.before)
 
 pub loop-tally-smaller : goal.loop-tally-smaller

@@ -4,9 +4,10 @@ use Prim.Native.Nat.{ℕ, ◌-◌, max, min}
 use Rattle.stretches.specs.Tries.{Modest, tried_in, nearer_of, past_crossing, nearest_of}
 use Rattle.stretches.proofs.Looks.{nearer-modest, one-look, tried-in}
 use Rattle.stretches.proofs.crossing.nearest.Goals as goal
+use Rattle.stretches.proofs.crossing.nearest.Goals.{After-nearer-near}
 
 -- the two numbers looked at, and the first look
-module _ (c : goal.After-nearer-near) where
+module _ (c : After-nearer-near) where
   abbrev past : ℕ
   past = past_crossing c.args.s.left c.args.s.right c.args.c c.args.m
 
@@ -39,7 +40,7 @@ returns-then-lower-upper c =
     let a = c.args in
     record {
       range = near-modest (goal.at.returns-then-lower-upper c).After-nearer-near;
-      nearest = near-is (goal.at.returns-then-lower-upper c).After-nearer-near ∙ sym (one-look a.found a.s a.c a.m c.requires.2 (sym (lower-is (goal.at.returns-then-lower-upper c).After-nearer-near) ∙ c.if-lower-upper.taken ∙ upper_is (goal.at.returns-then-lower-upper c).After-nearer-near));
+      nearest = near-is (goal.at.returns-then-lower-upper c).After-nearer-near ∙ sym (one-look a.found a.s a.c a.m c.requires.2 (sym (lower-is (goal.at.returns-then-lower-upper c).After-nearer-near) ∙ c.if-lower-upper.true ∙ upper_is (goal.at.returns-then-lower-upper c).After-nearer-near));
     }
 
 pub nearer-requires : goal.nearer-requires

@@ -8,9 +8,10 @@ use lib.ListN.{take, length}
 use lib.Seq.{get_or-take, length-take-le}
 use Rattle.lists.proofs.Searched.{passed-hit, passed-more, passed-all}
 use Rattle.stretches.proofs.passing.mark_from.Goals as goal
+use Rattle.stretches.proofs.passing.mark_from.Goals.{Start}
 
 -- the length of the part looked at
-len : (c : goal.Start) → length (take c.args.n c.args.at.now) ≡ c.args.n
+len : (c : Start) → length (take c.args.n c.args.at.now) ≡ c.args.n
 len c = length-take-le _ _ (omega arith)
 
 pub returns-then-place-at : goal.returns-then-place-at

@@ -9,10 +9,11 @@ use Rattle.stretches.specs.declared.Part.{Part}
 use Rattle.stretches.specs.declared.Passed.{Passed}
 use Rattle.stretches.specs.Parts.{PartOf, PassedTo}
 use Rattle.stretches.proofs.NextMark.{next, next-in, next-hit, next_more, next_grows}
-use Rattle.stretches.proofs.Parts.{start, counted-one, marks-small, next-to, passed_is}
+use Rattle.stretches.proofs.Parts.{Counted, start, counted-one, marks-small, next-to, passed_is}
 use Rattle.stretches.proofs.passing.pass.Goals as goal
+use Rattle.stretches.proofs.passing.pass.Goals.{Start}
 
-module _ (s : goal.Start) where
+module _ (s : Start) where
   abbrev at : List ℕ
   at = s.args.at.now
 
@@ -36,7 +37,7 @@ module _ (s : goal.Start) where
   inside : (k : ℕ) → k < part.to → k < length at
   inside k h = omega (arith, is.to, next-in at (part.place + part.keys))
 
-  module _ (r : Passed) (inv : invariant-loop at weights i part.to (part.place + i) (start part) r) where
+  module _ (r : Passed) (inv : (r.next ≤ next at (part.place + i)) × Counted weights (start part) r) where
     -- the next mark stands past the keys, or is not the part's
     hit : part.place + i ≤ get_or at r.next 0 → (ws : List ℕ) → PartOf ws at weights part → PassedTo ws at part i r
     hit h ws d = passed_is ws at weights part d i s.requires.i_le_keys r (omega (arith, next-hit at (part.place + i) r.next h)) inv.1
@@ -56,7 +57,7 @@ module _ (s : goal.Start) where
           )
 
       on : get_or at r.next 0 < part.place + i → (r' : Passed) → r'.next ≡ r.next + 1 → r'.left ≡ r.left + get_or weights r.next 0
-          → invariant-loop at weights i part.to (part.place + i) (start part) r'
+          → (r'.next ≤ next at (part.place + i)) × Counted weights (start part) r'
       on l r' a b = (
         omega (arith, next_more at (part.place + i) r.next inv.0 (inside r.next h) l),
         counted-one weights (start part) r r' asked.0 a b inv.1,
@@ -79,17 +80,17 @@ bounds-at-next c = inside (goal.at.bounds-at-next c).Start _ c.loop-p-test.true
 
 pub returns-then-place-at : goal.returns-then-place-at
 returns-then-place-at c =
-    hit L.before.before.before.before c.loop-p.p c.loop-p.invariant (omega (arith, c.if-place-at.true))
+    hit (goal.at.returns-then-place-at c).Start c.loop-p.p c.loop-p.invariant (omega (arith, c.if-place-at.true))
 
 pub pass_one-p-requires : goal.pass_one-p-requires
 pass_one-p-requires c =
-    asked L.before.before.before.before c.loop-p.p c.loop-p.invariant c.loop-p-test.true
+    asked (goal.at.pass_one-p-requires c).Start c.loop-p.p c.loop-p.invariant c.loop-p-test.true
 
 pub loop-p-preserved : goal.loop-p-preserved
 loop-p-preserved c =
     let one = c.pass_one-p in
-    on L.before.before.before.before c.loop-p.p c.loop-p.invariant c.loop-p-test.true c.if-place-at.false one.result one.ensures.0 one.ensures.1
+    on (goal.at.loop-p-preserved c).Start c.loop-p.p c.loop-p.invariant c.loop-p-test.true c.if-place-at.false one.result one.ensures.0 one.ensures.1
 
 pub returns : goal.returns
 returns c =
-    end L.before.before.before.before c.loop-p.p c.loop-p.invariant c.loop-p-test.false
+    end (goal.at.returns c).Start c.loop-p.p c.loop-p.invariant c.loop-p-test.false

@@ -65,12 +65,12 @@ module _ (c : After-fault_of-fault) where
   abbrev told : Forecast
   told = c.args.forecast
 
-  fault-is : c.fault_of-fault.result ≡ fault_of (cells_of (shares_of (profile c.before) (list c.before))) (segments_of (list c.before)) told
+  fault-is : c.fault_of-fault.result ≡ fault_of (cells_of (shares_of (profile c.before.before) (list c.before.before))) (segments_of (list c.before.before)) told
   fault-is =
-      let slots : List ℕ = list c.before in
-      let long : 64 ≤ length slots = omega (arith, long-passed (profile c.before) slots (list-passes c.before)) in
-      c.fault_of-fault.ensures (segments_of slots) (shows-passed (profile c.before) slots (list-passes c.before)) long
-      ∙ ap (λ (p : ℕ). fault_of p (segments_of slots) told) (((looked c.before []).shape (accepted c.before)).cells ∙ ap (λ (h : ℕ). 6 + h) ((looked c.before []).height (accepted c.before)))
+      let slots : List ℕ = list c.before.before in
+      let long : 64 ≤ length slots = omega (arith, long-passed (profile c.before.before) slots (list-passes c.before.before)) in
+      c.fault_of-fault.ensures (segments_of slots) (shows-passed (profile c.before.before) slots (list-passes c.before.before)) long
+      ∙ ap (λ (p : ℕ). fault_of p (segments_of slots) told) (((looked c.before.before []).shape (accepted c.before.before)).cells ∙ ap (λ (h : ℕ). 6 + h) ((looked c.before.before []).height (accepted c.before.before)))
 
 pub returns-then-not-is_sound : goal.returns-then-not-is_sound
 returns-then-not-is_sound c =

@@ -38,11 +38,11 @@ seek-segment-requires c = can-seek c.requires.0 (L (goal.at.seek-segment-require
 
 -- where the search ends, and what the slot there tells
 module _ (c : After-place_in-place) where
-  ends : c.seek-segment.result ≡ seat (key c.before.before.before.before.before.before) (ss c.before.before.before.before.before.before)
-  ends = sought c.requires.0 (L c.before.before.before.before.before.before) c.requires.1 (key c.before.before.before.before.before.before) c.seek-segment.result c.seek-segment.ensures.place
+  ends : c.seek-segment.result ≡ seat (key c.before.before.before.before.before.before.before) (ss c.before.before.before.before.before.before.before)
+  ends = sought c.requires.0 (L c.before.before.before.before.before.before.before) c.requires.1 (key c.before.before.before.before.before.before.before) c.seek-segment.result c.seek-segment.ensures.place
 
-  told : eqb (slot_at c.args.list.now c.place_in-place.result) (key c.before.before.before.before.before.before) ≡ member (key c.before.before.before.before.before.before) (keys (ss c.before.before.before.before.before.before))
-  told = found-live c.requires.0 (L c.before.before.before.before.before.before) c.requires.1 (key c.before.before.before.before.before.before) c.seek-segment.result c.place_in-place.result (omega arith) (omega arith) ends c.place_in-place.ensures.place
+  told : eqb (slot_at c.args.list.now c.place_in-place.result) (key c.before.before.before.before.before.before.before) ≡ member (key c.before.before.before.before.before.before.before) (keys (ss c.before.before.before.before.before.before.before))
+  told = found-live c.requires.0 (L c.before.before.before.before.before.before.before) c.requires.1 (key c.before.before.before.before.before.before.before) c.seek-segment.result c.place_in-place.result (omega arith) (omega arith) ends c.place_in-place.ensures.place
 
 pub bounds-cards-place : goal.bounds-cards-place
 bounds-cards-place c =

@@ -48,34 +48,34 @@ module _ (c : After-past-at) where
   abbrev first : ℕ
   first = c.seek-segment.result
 
-  begins : Past (from c.before.before.before.before.before.before.before) (ss c.before.before.before.before.before.before.before) first c.past-at.result
-  begins = c.past-at.ensures (ss c.before.before.before.before.before.before.before) (bounds_of (ss c.before.before.before.before.before.before.before)) (L c.before.before.before.before.before.before.before).table (ix c.before.before.before.before.before.before.before) (sought c.requires.0 (L c.before.before.before.before.before.before.before) c.requires.1 (from c.before.before.before.before.before.before.before) first c.seek-segment.ensures.place)
+  begins : Past (from c.before.before.before.before.before.before.before.before) (ss c.before.before.before.before.before.before.before.before) first c.past-at.result
+  begins = c.past-at.ensures (ss c.before.before.before.before.before.before.before.before) (bounds_of (ss c.before.before.before.before.before.before.before.before)) (L c.before.before.before.before.before.before.before.before).table (ix c.before.before.before.before.before.before.before.before) (sought c.requires.0 (L c.before.before.before.before.before.before.before.before) c.requires.1 (from c.before.before.before.before.before.before.before.before) first c.seek-segment.ensures.place)
 
   abbrev room : ℕ
-  room = shorter (length (output c.before.before.before.before.before.before.before)) (length (output-cards c.before.before.before.before.before.before.before))
+  room = shorter (length (output c.before.before.before.before.before.before.before.before)) (length (output-cards c.before.before.before.before.before.before.before.before))
 
   abbrev onward : Segments → List ℕ
   onward gs = keys_from first c.past-at.result gs
 
   -- what is written is what a scan gives, if it is told so
-  admits : (d : Written) (r : ScanAnswer) (left left-cards : List ℕ) → ((gs : Segments) → Shows gs (L c.before.before.before.before.before.before.before).slots → CountsOf gs (L c.before.before.before.before.before.before.before).table → Wrote room (onward gs) (output c.before.before.before.before.before.before.before) d left)
-      → ((f : ℕ → ℕ) (gs : Segments) → Shows gs (L c.before.before.before.before.before.before.before).slots → CountsOf gs (L c.before.before.before.before.before.before.before).table → (L c.before.before.before.before.before.before.before).cards ≡ map f (L c.before.before.before.before.before.before.before).slots → left-cards ≡ cards_over f (take room (onward gs)) (output-cards c.before.before.before.before.before.before.before))
-      → Tells d r → (profile : ℕ) → check_read profile (L c.before.before.before.before.before.before.before) ≡ 0 → ScanAdmits profile (L c.before.before.before.before.before.before.before) (from c.before.before.before.before.before.before.before) (output c.before.before.before.before.before.before.before) (output-cards c.before.before.before.before.before.before.before) r left left-cards
+  admits : (d : Written) (r : ScanAnswer) (left left-cards : List ℕ) → ((gs : Segments) → Shows gs (L c.before.before.before.before.before.before.before.before).slots → CountsOf gs (L c.before.before.before.before.before.before.before.before).table → Wrote room (onward gs) (output c.before.before.before.before.before.before.before.before) d left)
+      → ((f : ℕ → ℕ) (gs : Segments) → Shows gs (L c.before.before.before.before.before.before.before.before).slots → CountsOf gs (L c.before.before.before.before.before.before.before.before).table → (L c.before.before.before.before.before.before.before.before).cards ≡ map f (L c.before.before.before.before.before.before.before.before).slots → left-cards ≡ cards_over f (take room (onward gs)) (output-cards c.before.before.before.before.before.before.before.before))
+      → Tells d r → (profile : ℕ) → check_read profile (L c.before.before.before.before.before.before.before.before) ≡ 0 → ScanAdmits profile (L c.before.before.before.before.before.before.before.before) (from c.before.before.before.before.before.before.before.before) (output c.before.before.before.before.before.before.before.before) (output-cards c.before.before.before.before.before.before.before.before) r left left-cards
   admits d r left left-cards w v t profile e =
-      wrote-admits profile (L c.before.before.before.before.before.before.before) e (from c.before.before.before.before.before.before.before) (output c.before.before.before.before.before.before.before) (output-cards c.before.before.before.before.before.before.before) _ begins.rest d r left left-cards (w (ss c.before.before.before.before.before.before.before) (ix c.before.before.before.before.before.before.before).shows (counts-held (ix c.before.before.before.before.before.before.before)))
-      (v (card_in (cards_of (L c.before.before.before.before.before.before.before))) (ss c.before.before.before.before.before.before.before) (ix c.before.before.before.before.before.before.before).shows (counts-held (ix c.before.before.before.before.before.before.before)) (cards-beside profile (L c.before.before.before.before.before.before.before) e)) t
+      wrote-admits profile (L c.before.before.before.before.before.before.before.before) e (from c.before.before.before.before.before.before.before.before) (output c.before.before.before.before.before.before.before.before) (output-cards c.before.before.before.before.before.before.before.before) _ begins.rest d r left left-cards (w (ss c.before.before.before.before.before.before.before.before) (ix c.before.before.before.before.before.before.before.before).shows (counts-held (ix c.before.before.before.before.before.before.before.before)))
+      (v (card_in (cards_of (L c.before.before.before.before.before.before.before.before))) (ss c.before.before.before.before.before.before.before.before) (ix c.before.before.before.before.before.before.before.before).shows (counts-held (ix c.before.before.before.before.before.before.before.before)) (cards-beside profile (L c.before.before.before.before.before.before.before.before) e)) t
 
 pub write_keys-written-requires : goal.write_keys-written-requires
 write_keys-written-requires c =
-    let i = ix (goal.at.write_keys-written-requires c).Start in (
-      (
+    let i = ix (goal.at.write_keys-written-requires c).Start in record {
+      first_in_bounds = (
         omega arith,
         omega (arith, table-holds i, slots-long i),
         omega (arith, (begins (goal.at.write_keys-written-requires c).After-past-at).few, counts-held i (first (goal.at.write_keys-written-requires c).After-past-at) (omega (arith, slots-long i))),
         λ k h. count_small i k (omega (arith, slots-long i)),
-      ),
-      cards-long c.requires.0 (L (goal.at.write_keys-written-requires c).Start) c.requires.1,
-    )
+      );
+      cards_len = cards-long c.requires.0 (L (goal.at.write_keys-written-requires c).Start) c.requires.1;
+    }
 
 pub returns-then-written : goal.returns-then-written
 returns-then-written c =

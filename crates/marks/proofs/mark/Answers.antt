@@ -14,22 +14,25 @@ loop-i-init c = (omega arith, omega arith, (omega arith, omega arith), λ ss q. 
 
 pub mark_cell-n-requires : goal.mark_cell-n-requires
 mark_cell-n-requires c =
-    ((c.requires.n_bound.0, omega arith, omega arith), c.requires.n_in_bounds)
+    record {
+      n_bound = (c.requires.n_bound.0, omega arith, omega arith);
+      n_in_bounds = c.requires.n_in_bounds;
+    }
 
 pub loop-i-preserved : goal.loop-i-preserved
 loop-i-preserved c =
     let L = c.loop-i in
     let a = c.args in
     let t = c.requires.tidy in
-    let h : L.i < a.t3.used = c.loop-i-test.true in
-    let is = (roomy-cell a.t3 (tidy-roomy a.t3 t) L.i (let u = t.room in omega arith) _ _ c.wide.ensures c.wide-in-loop-i.ensures).cell in (
+    let h : L.i < a.f.used = c.loop-i-test.true in
+    let is = (roomy-cell a.f (tidy-roomy a.f t) L.i (let u = t.room in omega arith) _ _ c.wide.ensures c.wide-in-loop-i.ensures).cell in (
       omega arith,
       omega arith,
       (omega arith, omega arith),
-      λ ss q. marking-next a.t3 t q.fitting L.i h (after a.w ss) (take L.n L.at) (take L.n L.weights) _ _ (rises-after a.list.now a.counts.now a.w ss q.asked)
+      λ ss q. marking-next a.f t q.fitting L.i h (after a.w ss) (take L.n L.at) (take L.n L.weights) _ _ (rises-after a.list.now a.counts.now a.w ss q.asked)
           (omega (arith, length-take c.mark_cell-n.result c.mark_cell-n.new.at)) (L.invariant.3 ss q)
           _ is (c.mark_cell-n.ensures.marks ss q.asked
-          (subst (Aims a.w ss) (sym (is ∙ cell-is a.t3 t L.i)) (q.cells (get_or (used_cells a.t3) L.i zero_cell) (at_mem (used_cells a.t3) L.i zero_cell (omega (arith, cells-used a.t3 t)))))),
+          (subst (Aims a.w ss) (sym (is ∙ cell-is a.f t L.i)) (q.cells (get_or (used_cells a.f) L.i zero_cell) (at_mem (used_cells a.f) L.i zero_cell (omega (arith, cells-used a.f t)))))),
     )
 
 pub returns : goal.returns

@@ -29,9 +29,6 @@ returns-then-w-s c =
       marks = λ ss q m. one_none a.cell (after a.w ss) _ _ (outside-none a.list.now a.counts.now a.w ss q a.cell m c.if-marker-eq0.false (inr c.if-w-s.true));
     }
 
-pub overflow_add-result : goal.overflow_add-result
-overflow_add-result c = omega (arith, k)
-
 pub returns : goal.returns
 returns c =
     let p = c.place_of-p in

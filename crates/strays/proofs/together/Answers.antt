@@ -1,5 +1,4 @@
 -- `together` gathers sixteen and sixteen, from the end, and the sixteen from `c` on.
-use mathlib.Core.Logic.{inl, inr}
 use Prim.Native.Nat.{ℕ, ◌+◌, ◌≤◌}
 use native.Mathlib.Omega.{arith}
 use Rattle.strays.specs.Blanks.{Gathers}
@@ -15,14 +14,14 @@ gathered j =
     let cards = s.cards.now in
     let last = j.sixteen-all.ensures in
     elim j.if-c-le32.branch [
-      | inl w ↦ (
+      | goal.then-c-le32+then-c-le16 w ↦ (
         16,
-        w.2.taken,
+        w.if-c-le16.true,
         omega arith,
-        rw w.4 (gathers-before cards 16 32 32 64 (omega arith) (omega arith) (omega arith) (gathers-before cards 32 48 48 64 (omega arith) (omega arith) (omega arith) last w.1.ensures) w.3.ensures),
+        rw w.all-is (gathers-before cards 16 32 32 64 (omega arith) (omega arith) (omega arith) (gathers-before cards 32 48 48 64 (omega arith) (omega arith) (omega arith) last w.sixteen-all-then-c-le32.ensures) w.sixteen-all-then-c-le16.ensures),
       )
-      | inr (inl w) ↦ (32, w.0.taken, omega (arith, w.2.left), rw w.3 (gathers-before cards 32 48 48 64 (omega arith) (omega arith) (omega arith) last w.1.ensures))
-      | inr (inr w) ↦ (48, j.if-c-gt48.false, omega (arith, w.0.left), rw w.1 last)
+      | goal.then-c-le32+else-c-le16 w ↦ (32, w.if-c-le32.true, omega (arith, w.if-c-le16.false), rw w.all-is (gathers-before cards 32 48 48 64 (omega arith) (omega arith) (omega arith) last w.sixteen-all-then-c-le32.ensures))
+      | goal.else-c-le32 w ↦ (48, j.if-c-gt48.false, omega (arith, w.if-c-le32.false), rw w.all-is last)
     ]
 
 pub returns : goal.returns

@@ -46,7 +46,7 @@ module _ (c : After-front_weight-front) where
   weights = take c.mark-r.result c.mark-r.new.weights
 
   abbrev ws : List ℕ
-  ws = map (weight (used_cells c.args.forecast)) (after (record { first = first c.before.before.before.before.before.before; n = n c.before.before.before.before.before.before; key = c.args.aim.key; grows = c.args.aim.grows }) (segments_of c.args.list.now))
+  ws = map (weight (used_cells c.args.forecast)) (after (record { first = first c.before.before.before.before.before.before.before; n = n c.before.before.before.before.before.before.before; key = c.args.aim.key; grows = c.args.aim.grows }) (segments_of c.args.list.now))
 
   module _ {F : Forecast} {bounds : List ℕ} (A : Acting c.args.list.now F bounds c.args.table.now c.args.shape c.args.aim)
       (N : Noted c.args.list.now F c.args.shape c.args.aim c.args.forecast) where
@@ -58,10 +58,10 @@ module _ (c : After-whole-part) where
   module _ {F : Forecast} {bounds : List ℕ}
       (A : Acting (s f).args.list.now F bounds (s f).args.table.now (s f).args.shape (s f).args.aim)
       (N : Noted (s f).args.list.now F (s f).args.shape (s f).args.aim (s f).args.forecast) where
-    whole : PartOf (ws c.before.before) (at c.before.before) (weights c.before.before) c.whole-part.result
+    whole : PartOf (ws c.before.before.before) (at c.before.before.before) (weights c.before.before.before) c.whole-part.result
     whole =
-        subst (PartOf (ws c.before.before) (at c.before.before) (weights c.before.before)) (sym c.whole-part.ensures)
-        (part A (s f).pre.1.0 c.power-n.ensures.0 refl N c.front_weight-front.ensures (marked c.before.before A N))
+        subst (PartOf (ws c.before.before.before) (at c.before.before.before) (weights c.before.before.before)) (sym c.whole-part.ensures)
+        (part A (s f).pre.1.0 c.power-n.ensures.0 refl N c.front_weight-front.ensures (marked c.before.before.before A N))
 
 pub power-n-requires : goal.power-n-requires
 power-n-requires c = level-small c.requires.by_index.2 c.requires.le_level.0

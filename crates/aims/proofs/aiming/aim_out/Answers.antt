@@ -1,5 +1,4 @@
 -- `aim_out` refuses by 5 or 7, or tells the key's place, with the window that a climb finds, if any, where its segment falls under its low share.
-use mathlib.Core.Logic.{⊎_elim}
 use native.Mathlib.Omega.{arith}
 use borrow.Author.Tests.{not-true, not-false}
 use Prim.Native.Nat.{◌<◌}
@@ -17,12 +16,12 @@ spot-spot-requires c = (c.requires.index, omega arith)
 
 pub returns-then-not-place : goal.returns-then-not-place
 returns-then-not-place c F s =
-    rw c.refuse-then-not-place.ensures (out-absent s c.if-key-eq0.false c.spot-spot.ensures c.if-not-place.true)
+    rw c.refuse-then-not-place.ensures (out-absent s c.if-key-eq0.false c.spot-spot.ensures (not-true _ c.if-not-place.true))
 
 -- the key's place is below the number of keys there
 under : (c : Else-not-place) → c.spot-spot.result.place.at < c.spot-spot.result.place.held
 under c =
-    out-under c.requires.stands c.if-key-eq0.false c.spot-spot.ensures c.if-not-place.false
+    out-under c.requires.stands c.if-key-eq0.false c.spot-spot.ensures (not-false _ c.if-not-place.false)
 
 pub climb-found-requires : goal.climb-found-requires
 climb-found-requires c =
@@ -30,7 +29,7 @@ climb-found-requires c =
 
 pub returns-then-found-ne0 : goal.returns-then-found-ne0
 returns-then-found-ne0 c F s =
-    out-swept s c.if-key-eq0.false c.spot-spot.ensures c.if-not-place.false (omega (arith, c.if-held-shape.true)) c.requires.index c.climb-found.ensures.window (omega (arith, c.if-found-ne0.true))
+    out-swept s c.if-key-eq0.false c.spot-spot.ensures (not-false _ c.if-not-place.false) (omega (arith, c.if-held-shape.true)) c.requires.index c.climb-found.ensures.window (omega (arith, c.if-found-ne0.true))
 
 pub overflow_sub-result : goal.overflow_sub-result
 overflow_sub-result c = omega (arith, under (goal.at.overflow_sub-result c).Else-not-place)
@@ -41,8 +40,9 @@ overflow_sub-result-2 c = omega (arith, under (goal.at.overflow_sub-result-2 c).
 -- no window, for either reason
 pub returns : goal.returns
 returns c F s =
-    out-shifted s c.if-key-eq0.false c.spot-spot.ensures c.if-not-place.false
-    (⊎_elim
-    (λ w. out-unswept s c.if-key-eq0.false c.spot-spot.ensures c.if-not-place.false (omega (arith, w.0.taken)) c.requires.index w.1.ensures.1 w.3.left)
-    (λ w. out-keeps s c.if-key-eq0.false c.spot-spot.ensures c.if-not-place.false w.left)
-    c.if-held-shape.branch)
+    out-shifted s c.if-key-eq0.false c.spot-spot.ensures (not-false _ c.if-not-place.false)
+    (elim c.if-held-shape.branch [
+      | goal.then-held-shape+else-found-ne0 w ↦
+          out-unswept s c.if-key-eq0.false c.spot-spot.ensures (not-false _ c.if-not-place.false) (omega (arith, w.if-held-shape.true)) c.requires.index w.climb-found.ensures.window w.if-found-ne0.false
+      | goal.else-held-shape w ↦ out-keeps s c.if-key-eq0.false c.spot-spot.ensures (not-false _ c.if-not-place.false) w.if-held-shape.false
+    ])

@@ -23,7 +23,7 @@ module _ (s : Start) where
   m = s.args.part.keys
 
 -- the bounds of the scan
-first-is : (c : After-smaller-last) → c.larger-first.result ≡ first (half c.before.before.before.before.before.before.before) (low c.before.before.before.before.before.before.before) (high c.before.before.before.before.before.before.before) (m c.before.before.before.before.before.before.before)
+first-is : (c : After-smaller-last) → c.larger-first.result ≡ first (half c.before.before.before.before.before.before.before.before) (low c.before.before.before.before.before.before.before.before) (high c.before.before.before.before.before.before.before.before) (m c.before.before.before.before.before.before.before.before)
 first-is c = omega (arith, c.larger-first.ensures, c.over.ensures)
 
 pub overflow_add-result : goal.overflow_add-result

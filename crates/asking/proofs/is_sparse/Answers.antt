@@ -17,7 +17,7 @@ returns-then-height-eq0 c = record { is = λ h. absurd (omega (arith, h, c.if-he
 pub returns : goal.returns
 returns c =
     let grows = c.if-grows.false in
-    let done = c.enum_told-in_default-1.given.1 in
+    let done = c.in_default.is in
     let tall = c.height_of-height.ensures.0 in
     let named = c.profile_of.ensures in
     record { is = λ h. rw (grows, done, sym tall, sym named, sym c.shape_of-shape.ensures.1.floor) refl; refused = λ a. absurd (true≢false (sym (ap is_accepted done) ∙ a)) }

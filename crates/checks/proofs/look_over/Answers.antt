@@ -24,6 +24,7 @@ use Rattle.checks.proofs.Kept.{lawful-length, gaps_asked, gaps-told}
 use Rattle.checks.proofs.Numbers.{refetched, looked-refused, counting-refused, counting_kept}
 use Rattle.checks.proofs.look_over.Goals as goal
 use Rattle.checks.proofs.look_over.Goals.{After-is_kept, After-shape_of-shape, After-stray, Else-not-is_kept, Else-not-is_profile}
+use Rattle.checks.proofs.look_over.Lts.View.{up-After-is_kept, up-After-stray, up-Else-not-is_kept, up-Else-not-is_profile}
 
 pub returns-then-not-is_profile : goal.returns-then-not-is_profile
 returns-then-not-is_profile c =
@@ -70,7 +71,7 @@ module _ (c : After-is_kept) where
   counts = c.read_slots-reading.new.counts
 
   named : is_profile profile ≡ true
-  named = known c.before.before.before.before.before.before.before.before.before
+  named = known (up-Else-not-is_profile _ _ _ _ c.before.before.before.before.before.before.before.before.before)
 
   high : height_of (length list) ≢ 0
   high = omega arith
@@ -92,17 +93,17 @@ returns-then-not-is_kept c =
     }
 
 -- the order is kept
-kept : (c : Else-not-is_kept) → is_kept (order_of (list c.before.before)) ≡ true
-kept c = order c.before.before ∙ c.if-not-is_kept.false
+kept : (c : Else-not-is_kept) → is_kept (order_of (list (up-After-is_kept _ _ _ _ c.before.before))) ≡ true
+kept c = order (up-After-is_kept _ _ _ _ c.before.before) ∙ c.if-not-is_kept.false
 
 pub stray-requires : goal.stray-requires
 stray-requires c =
     gaps_asked (list (goal.at.stray-requires c).After-is_kept) c.args.counts.now (kept (goal.at.stray-requires c).Else-not-is_kept) (high (goal.at.stray-requires c).After-is_kept) (counts (goal.at.stray-requires c).After-is_kept) (tallied (goal.at.stray-requires c).After-is_kept) c.args.cards.now (long (goal.at.stray-requires c).After-is_kept) c.requires
 
 -- a gap has a card, or none has
-gaps : (c : After-stray) → c.stray.result ≡ gap_card (list c.before.before.before) c.args.cards.now
+gaps : (c : After-stray) → c.stray.result ≡ gap_card (list (up-After-is_kept _ _ _ _ c.before.before.before)) c.args.cards.now
 gaps c =
-    gaps-told (list c.before.before.before) c.args.counts.now (kept c.before.before) (high c.before.before.before) (counts c.before.before.before) (tallied c.before.before.before) c.args.cards.now _ c.stray.ensures
+    gaps-told (list (up-After-is_kept _ _ _ _ c.before.before.before)) c.args.counts.now (kept (up-Else-not-is_kept _ _ _ _ c.before.before)) (high (up-After-is_kept _ _ _ _ c.before.before.before)) (counts (up-After-is_kept _ _ _ _ c.before.before.before)) (tallied (up-After-is_kept _ _ _ _ c.before.before.before)) c.args.cards.now _ c.stray.ensures
 
 pub returns-then-stray : goal.returns-then-stray
 returns-then-stray c =
@@ -114,25 +115,25 @@ returns-then-stray c =
 
 -- no gap has a card, and the shape is that of the list in its profile
 module _ (c : After-shape_of-shape) where
-  in_order : is_kept (order_of (list c.before.before.before.before.before.before)) ≡ true
-  in_order = kept c.before.before.before.before.before
+  in_order : is_kept (order_of (list (up-After-is_kept _ _ _ _ c.before.before.before.before.before.before))) ≡ true
+  in_order = kept (up-Else-not-is_kept _ _ _ _ c.before.before.before.before.before)
 
-  clean : gap_card (list c.before.before.before.before.before.before) c.args.cards.now ≡ false
-  clean = sym (gaps c.before.before.before.before) ∙ c.if-stray.false
+  clean : gap_card (list (up-After-is_kept _ _ _ _ c.before.before.before.before.before.before)) c.args.cards.now ≡ false
+  clean = sym (gaps (up-After-stray _ _ _ _ c.before.before.before.before)) ∙ c.if-stray.false
 
-  keys : c.read_slots-reading.result.keys ≡ length (live (list c.before.before.before.before.before.before))
+  keys : c.read_slots-reading.result.keys ≡ length (live (list (up-After-is_kept _ _ _ _ c.before.before.before.before.before.before)))
   keys = c.read_slots-reading.ensures.order.keys (rw in_order tt)
 
-  of-profile : c.shape_of-shape.result.profile ≡ profile_of (profile c.before.before.before.before.before.before)
+  of-profile : c.shape_of-shape.result.profile ≡ profile_of (profile (up-After-is_kept _ _ _ _ c.before.before.before.before.before.before))
   of-profile = c.shape_of-shape.ensures.0 ∙ c.profile_of.ensures
 
-  height : c.shape_of-shape.result.height ≡ height_of (length (list c.before.before.before.before.before.before))
+  height : c.shape_of-shape.result.height ≡ height_of (length (list (up-After-is_kept _ _ _ _ c.before.before.before.before.before.before)))
   height = c.shape_of-shape.ensures.1.height ∙ c.height_of-height.ensures.0
 
   fetched : Fetched (shares_at c.shape_of-shape.result) c.shape_of-shape.result
   fetched = refetched _ _ _ c.shape_of-shape.ensures.0 c.shape_of-shape.ensures.1
 
-  most : c.shape_of-shape.result.capacity ≡ capacity (shares_of (profile c.before.before.before.before.before.before) (list c.before.before.before.before.before.before))
+  most : c.shape_of-shape.result.capacity ≡ capacity (shares_of (profile (up-After-is_kept _ _ _ _ c.before.before.before.before.before.before)) (list (up-After-is_kept _ _ _ _ c.before.before.before.before.before.before)))
   most = fetched.capacity ∙ ap₂ (λ (p : Profile) (h : ℕ). capacity (shares p h)) of-profile height
 
 pub returns-then-shape-reading : goal.returns-then-shape-reading

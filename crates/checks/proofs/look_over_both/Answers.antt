@@ -22,6 +22,7 @@ use Rattle.checks.specs.declared.Listing.{Listing}
 use Rattle.checks.specs.Listings.{ListLooked, Counting}
 use Rattle.checks.proofs.look_over_both.Goals as goal
 use Rattle.checks.proofs.look_over_both.Goals.{After-fault_of-fault, After-shape-1}
+use Rattle.checks.proofs.look_over_both.Lts.View.{up-After-shape-1}
 
 pub returns-in-Refused : goal.returns-in-Refused
 returns-in-Refused c =
@@ -52,7 +53,7 @@ module _ (c : After-shape-1) where
   counting = c.look_over-listing.ensures.counts
 
   accepted : listing.verdict ≡ Accepted
-  accepted = c.in-Refused.is
+  accepted = c.in_default.is
 
   passes : (table : List ℕ) → check_cards profile (lent table) ≡ 0
   passes table = sym (looked table).number ∙ ap verdict_number accepted
@@ -65,12 +66,12 @@ module _ (c : After-fault_of-fault) where
   abbrev told : Forecast
   told = c.args.forecast
 
-  fault-is : c.fault_of-fault.result ≡ fault_of (cells_of (shares_of (profile c.before.before) (list c.before.before))) (segments_of (list c.before.before)) told
+  fault-is : c.fault_of-fault.result ≡ fault_of (cells_of (shares_of (profile (up-After-shape-1 _ _ _ _ c.before.before)) (list (up-After-shape-1 _ _ _ _ c.before.before)))) (segments_of (list (up-After-shape-1 _ _ _ _ c.before.before))) told
   fault-is =
-      let slots : List ℕ = list c.before.before in
-      let long : 64 ≤ length slots = omega (arith, long-passed (profile c.before.before) slots (list-passes c.before.before)) in
-      c.fault_of-fault.ensures (segments_of slots) (shows-passed (profile c.before.before) slots (list-passes c.before.before)) long
-      ∙ ap (λ (p : ℕ). fault_of p (segments_of slots) told) (((looked c.before.before []).shape (accepted c.before.before)).cells ∙ ap (λ (h : ℕ). 6 + h) ((looked c.before.before []).height (accepted c.before.before)))
+      let slots : List ℕ = list (up-After-shape-1 _ _ _ _ c.before.before) in
+      let long : 64 ≤ length slots = omega (arith, long-passed (profile (up-After-shape-1 _ _ _ _ c.before.before)) slots (list-passes (up-After-shape-1 _ _ _ _ c.before.before))) in
+      c.fault_of-fault.ensures (segments_of slots) (shows-passed (profile (up-After-shape-1 _ _ _ _ c.before.before)) slots (list-passes (up-After-shape-1 _ _ _ _ c.before.before))) long
+      ∙ ap (λ (p : ℕ). fault_of p (segments_of slots) told) (((looked (up-After-shape-1 _ _ _ _ c.before.before) []).shape (accepted (up-After-shape-1 _ _ _ _ c.before.before))).cells ∙ ap (λ (h : ℕ). 6 + h) ((looked (up-After-shape-1 _ _ _ _ c.before.before) []).height (accepted (up-After-shape-1 _ _ _ _ c.before.before))))
 
 pub returns-then-not-is_sound : goal.returns-then-not-is_sound
 returns-then-not-is_sound c =

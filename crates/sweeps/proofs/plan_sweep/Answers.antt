@@ -20,6 +20,7 @@ use Rattle.sweeps.specs.Acts.{Acting, Noted}
 use Rattle.sweeps.proofs.PlanFor.{level-small, planned, first-few, lent, marking, front-small, part, plan-back}
 use Rattle.sweeps.proofs.plan_sweep.Goals as goal
 use Rattle.sweeps.proofs.plan_sweep.Goals.{After-front_weight-front, After-power-n, After-whole-part, Start}
+use Rattle.sweeps.proofs.plan_sweep.Lts.View.{up-After-front_weight-front, up-After-power-n}
 
 -- the rows are arrays of seven
 rows_long : (s : Start) → (length s.args.shape.lows ≡ 7) × (length s.args.shape.highs ≡ 7)
@@ -46,7 +47,7 @@ module _ (c : After-front_weight-front) where
   weights = take c.mark-r.result c.mark-r.new.weights
 
   abbrev ws : List ℕ
-  ws = map (weight (used_cells c.args.forecast)) (after (record { first = first c.before.before.before.before.before.before.before; n = n c.before.before.before.before.before.before.before; key = c.args.aim.key; grows = c.args.aim.grows }) (segments_of c.args.list.now))
+  ws = map (weight (used_cells c.args.forecast)) (after (record { first = first (up-After-power-n _ _ _ _ c.before.before.before.before.before.before.before); n = n (up-After-power-n _ _ _ _ c.before.before.before.before.before.before.before); key = c.args.aim.key; grows = c.args.aim.grows }) (segments_of c.args.list.now))
 
   module _ {F : Forecast} {bounds : List ℕ} (A : Acting c.args.list.now F bounds c.args.table.now c.args.shape c.args.aim)
       (N : Noted c.args.list.now F c.args.shape c.args.aim c.args.forecast) where
@@ -56,12 +57,12 @@ module _ (c : After-front_weight-front) where
 -- the window with its marks as one part
 module _ (c : After-whole-part) where
   module _ {F : Forecast} {bounds : List ℕ}
-      (A : Acting (s f).args.list.now F bounds (s f).args.table.now (s f).args.shape (s f).args.aim)
-      (N : Noted (s f).args.list.now F (s f).args.shape (s f).args.aim (s f).args.forecast) where
-    whole : PartOf (ws c.before.before.before) (at c.before.before.before) (weights c.before.before.before) c.whole-part.result
+      (A : Acting c.args.list.now F bounds c.args.table.now c.args.shape c.args.aim)
+      (N : Noted c.args.list.now F c.args.shape c.args.aim c.args.forecast) where
+    whole : PartOf (ws (up-After-front_weight-front _ _ _ _ c.before.before.before)) (at (up-After-front_weight-front _ _ _ _ c.before.before.before)) (weights (up-After-front_weight-front _ _ _ _ c.before.before.before)) c.whole-part.result
     whole =
-        subst (PartOf (ws c.before.before.before) (at c.before.before.before) (weights c.before.before.before)) (sym c.whole-part.ensures)
-        (part A (s f).pre.1.0 c.power-n.ensures.0 refl N c.front_weight-front.ensures (marked c.before.before.before A N))
+        subst (PartOf (ws (up-After-front_weight-front _ _ _ _ c.before.before.before)) (at (up-After-front_weight-front _ _ _ _ c.before.before.before)) (weights (up-After-front_weight-front _ _ _ _ c.before.before.before))) (sym c.whole-part.ensures)
+        (part A c.requires.le_level.0 c.power-n.ensures.0 refl N c.front_weight-front.ensures (marked (up-After-front_weight-front _ _ _ _ c.before.before.before) A N))
 
 pub power-n-requires : goal.power-n-requires
 power-n-requires c = level-small c.requires.by_index.2 c.requires.le_level.0
@@ -82,9 +83,8 @@ slice_bounds-whole-end c = sym (length-take-le _ _ (search rules))
 
 pub whole-part-requires : goal.whole-part-requires
 whole-part-requires c =
-    let s = s d in
-    let m = marked (goal.at.whole-part-requires c).After-front_weight-front s.pre.0.2 s.pre.0.3 in
-    (omega (arith, m.few, m.same), m.small, front-small s.pre.0.2 s.pre.1.0 c.power-n.ensures.0 refl s.pre.0.3 c.front_weight-front.ensures)
+    let m = marked (goal.at.whole-part-requires c).After-front_weight-front c.requires.by_index.2 c.requires.by_index.3 in
+    (omega (arith, m.few, m.same), m.small, front-small c.requires.by_index.2 c.requires.le_level.0 c.power-n.ensures.0 refl c.requires.by_index.3 c.front_weight-front.ensures)
 
 pub slice_bounds-plan_window-end : goal.slice_bounds-plan_window-end
 slice_bounds-plan_window-end c = sym (length-take-le _ _ (search rules))
@@ -93,35 +93,31 @@ pub slice_bounds-plan_window-end-2 : goal.slice_bounds-plan_window-end-2
 slice_bounds-plan_window-end-2 c = sym (length-take-le _ _ (search rules))
 
 pub slice_bounds-plan_window-end-3 : goal.slice_bounds-plan_window-end-3
-slice_bounds-plan_window-end-3 c = sym (rows_long (s c.before.before.before.before.before.before.before)).0
+slice_bounds-plan_window-end-3 c = sym (rows_long (goal.at.slice_bounds-plan_window-end-3 c).Start).0
 
 pub slice_bounds-plan_window-end-4 : goal.slice_bounds-plan_window-end-4
-slice_bounds-plan_window-end-4 c = sym (rows_long (s c.before.before.before.before.before.before.before.before)).1
+slice_bounds-plan_window-end-4 c = sym (rows_long (goal.at.slice_bounds-plan_window-end-4 c).Start).1
 
 pub slice_bounds-plan_window-end-6 : goal.slice_bounds-plan_window-end-6
-slice_bounds-plan_window-end-6 c = let p = p c.before.before.before.before.before.before.before in sym (buffer (s p) p.power.ensures.1)
+slice_bounds-plan_window-end-6 c = sym (buffer (goal.at.slice_bounds-plan_window-end-6 c).Start c.power-n.ensures.1)
 
 pub plan_window-requires : goal.plan_window-requires
 plan_window-requires c =
-    let p = p d in
-    let s = s p in
-    let long : length (take p.power.result s.args.plan.now) ≡ 2 ^ s.args.aim.level = buffer s p.power.ensures.1 ∙ p.power.ensures.0 in
-    let keys : c.whole-part.result.keys ≡ s.args.aim.moves = ap (λ (q : Part). q.keys) c.whole-part.ensures in record {
-      by_index = (ws (goal.at.plan_window-requires c).After-front_weight-front, whole (goal.at.plan_window-requires c).After-whole-part s.pre.0.2 s.pre.0.3);
+    let long : length (take c.power-n.result c.args.plan.now) ≡ 2 ^ c.args.aim.level = buffer (goal.at.plan_window-requires c).Start c.power-n.ensures.1 ∙ c.power-n.ensures.0 in
+    let keys : c.whole-part.result.keys ≡ c.args.aim.moves = ap (λ (q : Part). q.keys) c.whole-part.ensures in record {
+      by_index = (ws (goal.at.plan_window-requires c).After-front_weight-front, whole (goal.at.plan_window-requires c).After-whole-part c.requires.by_index.2 c.requires.by_index.3);
       rows = (
-        shares_at s.args.shape,
-        s.pre.0.2.stands.shape.rows,
-        subst (Planned (shares_at s.args.shape) s.args.aim.level _) (sym keys) (planned s.pre.0.2 s.pre.1.0 _ long),
+        shares_at c.args.shape,
+        c.requires.by_index.2.stands.shape.rows,
+        subst (Planned (shares_at c.args.shape) c.args.aim.level _) (sym keys) (planned c.requires.by_index.2 c.requires.le_level.0 _ long),
       );
     }
 
 pub returns : goal.returns
 returns c =
-    let p = p d in
-    let s = s p in
-    let size = p.power.ensures.0 in
+    let size = c.power-n.ensures.0 in
     let done = c.plan_window.ensures in record {
       range = search rules;
-      plan = λ F bounds A N. plan-back A s.pre.1.0 size refl N c.front_weight-front.ensures (weights (goal.at.returns c).After-front_weight-front) _ _ c.whole-part.ensures (done.range ∙ buffer s p.power.ensures.1)
-          (done.counts (shares_at s.args.shape) (ws (goal.at.returns c).After-front_weight-front) (planned A s.pre.1.0 _ size).level A.stands.shape.rows (whole (goal.at.returns c).After-whole-part A N));
+      plan = λ F bounds A N. plan-back A c.requires.le_level.0 size refl N c.front_weight-front.ensures (weights (goal.at.returns c).After-front_weight-front) _ _ c.whole-part.ensures (done.range ∙ buffer (goal.at.returns c).Start c.power-n.ensures.1)
+          (done.counts (shares_at c.args.shape) (ws (goal.at.returns c).After-front_weight-front) (planned A c.requires.le_level.0 _ size).level A.stands.shape.rows (whole (goal.at.returns c).After-whole-part A N));
     }

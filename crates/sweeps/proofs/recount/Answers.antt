@@ -29,4 +29,4 @@ sum_over-requires c = (
 
 pub returns : goal.returns
 returns c h ss window size right counts =
-    recounted c.args.first c.args.table.now c.args.plan.now _ c.requires.1 c.keep.ensures h ss window _ size right (omega (arith, c.requires.0.4, table-many c.requires.0.3)) counts c.Sum-over.ensures
+    recounted c.args.first c.args.table.now c.args.plan.now _ c.requires.1 c.keep.ensures h ss window _ size right (omega (arith, c.requires.0.4, table-many c.requires.0.3)) counts c.sum_over.ensures

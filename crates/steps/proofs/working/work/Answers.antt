@@ -28,6 +28,7 @@ use Rattle.steps.proofs.MidWork.{Lent, Now, going_start, ends-whole, next, AtRec
 use borrow.Author.Rules.{rules}
 use Rattle.steps.proofs.working.work.Goals as goal
 use Rattle.steps.proofs.working.work.Goals.{After-is_accepted-done, After-next-tally, After-shared_slice_known-1, After-struct_known-in-loop-tally-1, Joined-done, Start}
+use Rattle.steps.proofs.working.work.Lts.View.{up-After-is_accepted-done, up-After-struct_known-in-loop-tally-1}
 
 roomy : (s : Start) → Roomy s.args.forecast
 roomy s = record { markers = search rules; segments = search rules; counts = search rules }
@@ -85,62 +86,62 @@ module _ (c : After-struct_known-in-loop-tally-1) where
 
 -- where nothing stops the run
 module _ (c : After-is_accepted-done) where
-  on : OnRecord (lent c.before.before.before.before) (here c.before.before.before.before) (aimed c.before.before.before.before)
-  on = on-record (at-record c.before.before.before.before) (sym c.halts.ensures ∙ c.if-halts.false)
+  on : OnRecord (lent (up-After-struct_known-in-loop-tally-1 _ _ _ _ _ _ c.before.before.before.before)) (here (up-After-struct_known-in-loop-tally-1 _ _ _ _ _ _ c.before.before.before.before)) (aimed (up-After-struct_known-in-loop-tally-1 _ _ _ _ _ _ c.before.before.before.before))
+  on = on-record (at-record (up-After-struct_known-in-loop-tally-1 _ _ _ _ _ _ c.before.before.before.before)) (sym c.halts.ensures ∙ c.if-halts.false)
 
   -- where the request is accepted
-  acting-here : c.is_accepted-done.result ≡ true → Acting (here c.before.before.before.before).slots (here c.before.before.before.before).forecast (here c.before.before.before.before).bounds (here c.before.before.before.before).table (lent c.before.before.before.before).shape (aimed c.before.before.before.before)
-  acting-here e = acting (turning (at-record c.before.before.before.before)) (sym c.is_accepted-done.ensures ∙ e)
+  acting-here : c.is_accepted-done.result ≡ true → Acting (here (up-After-struct_known-in-loop-tally-1 _ _ _ _ _ _ c.before.before.before.before)).slots (here (up-After-struct_known-in-loop-tally-1 _ _ _ _ _ _ c.before.before.before.before)).forecast (here (up-After-struct_known-in-loop-tally-1 _ _ _ _ _ _ c.before.before.before.before)).bounds (here (up-After-struct_known-in-loop-tally-1 _ _ _ _ _ _ c.before.before.before.before)).table (lent (up-After-struct_known-in-loop-tally-1 _ _ _ _ _ _ c.before.before.before.before)).shape (aimed (up-After-struct_known-in-loop-tally-1 _ _ _ _ _ _ c.before.before.before.before))
+  acting-here e = acting (turning (at-record (up-After-struct_known-in-loop-tally-1 _ _ _ _ _ _ c.before.before.before.before))) (sym c.is_accepted-done.ensures ∙ e)
 
 -- where the ways meet again: what the request leaves, and nothing has another length
 module _ (c : Joined-done) where
   abbrev Same : Type 0
   Same =
-      (length c.if-done.list ≡ length (here c.before.before.before.before.before).slots) × (length c.if-done.cards ≡ length (here c.before.before.before.before.before).cards) × (length c.if-done.table ≡ length (here c.before.before.before.before.before).table)
-      × (length c.if-done.bounds ≡ length (here c.before.before.before.before.before).bounds) × (length c.if-done.plan ≡ length c.loop-tally.plan)
+      (length c.if-done.list ≡ length (here (up-After-struct_known-in-loop-tally-1 _ _ _ _ _ _ c.before.before.before.before.before)).slots) × (length c.if-done.cards ≡ length (here (up-After-struct_known-in-loop-tally-1 _ _ _ _ _ _ c.before.before.before.before.before)).cards) × (length c.if-done.table ≡ length (here (up-After-struct_known-in-loop-tally-1 _ _ _ _ _ _ c.before.before.before.before.before)).table)
+      × (length c.if-done.bounds ≡ length (here (up-After-struct_known-in-loop-tally-1 _ _ _ _ _ _ c.before.before.before.before.before)).bounds) × (length c.if-done.plan ≡ length c.loop-tally.plan)
 
   -- the cards then, of any card that came with the request
   abbrev CardsThen : List ℕ → List ℕ → ℕ → Type 0
   CardsThen cards slots v =
       cards
-      ≡ cards_beside (cards_after (outcome (shares_at (lent c.before.before.before.before.before).shape) (next (lent c.before.before.before.before.before) (here c.before.before.before.before.before)).request (room_of (here c.before.before.before.before.before).slots (here c.before.before.before.before.before).forecast))
-      (next (lent c.before.before.before.before.before) (here c.before.before.before.before.before)).request v (on c.before.before).at.going.own) slots
+      ≡ cards_beside (cards_after (outcome (shares_at (lent (up-After-struct_known-in-loop-tally-1 _ _ _ _ _ _ c.before.before.before.before.before)).shape) (next (lent (up-After-struct_known-in-loop-tally-1 _ _ _ _ _ _ c.before.before.before.before.before)) (here (up-After-struct_known-in-loop-tally-1 _ _ _ _ _ _ c.before.before.before.before.before))).request (room_of (here (up-After-struct_known-in-loop-tally-1 _ _ _ _ _ _ c.before.before.before.before.before)).slots (here (up-After-struct_known-in-loop-tally-1 _ _ _ _ _ _ c.before.before.before.before.before)).forecast))
+      (next (lent (up-After-struct_known-in-loop-tally-1 _ _ _ _ _ _ c.before.before.before.before.before)) (here (up-After-struct_known-in-loop-tally-1 _ _ _ _ _ _ c.before.before.before.before.before))).request v (on (up-After-is_accepted-done _ _ _ _ _ _ c.before.before)).at.going.own) slots
 
-  carried : (cards slots : List ℕ) → c.is_accepted-done.result ≡ true → Carries (aimed c.before.before.before.before.before) (read c.before.before.before.before.before).card (here c.before.before.before.before.before).slots (here c.before.before.before.before.before).cards slots cards
-      → CardsThen cards slots (next (lent c.before.before.before.before.before) (here c.before.before.before.before.before)).card
+  carried : (cards slots : List ℕ) → c.is_accepted-done.result ≡ true → Carries (aimed (up-After-struct_known-in-loop-tally-1 _ _ _ _ _ _ c.before.before.before.before.before)) (read (up-After-struct_known-in-loop-tally-1 _ _ _ _ _ _ c.before.before.before.before.before)).card (here (up-After-struct_known-in-loop-tally-1 _ _ _ _ _ _ c.before.before.before.before.before)).slots (here (up-After-struct_known-in-loop-tally-1 _ _ _ _ _ _ c.before.before.before.before.before)).cards slots cards
+      → CardsThen cards slots (next (lent (up-After-struct_known-in-loop-tally-1 _ _ _ _ _ _ c.before.before.before.before.before)) (here (up-After-struct_known-in-loop-tally-1 _ _ _ _ _ _ c.before.before.before.before.before))).card
   carried cards slots e h =
-      subst (CardsThen cards slots) (ap (λ (z : Record). z.card) (is-next c.before.before.before.before.before))
-      (cards-accepted (turning (at-record c.before.before.before.before.before)) (on c.before.before).at.going.own (read c.before.before.before.before.before).card (on c.before.before).at.going.beside (sym c.is_accepted-done.ensures ∙ e) slots cards h)
+      subst (CardsThen cards slots) (ap (λ (z : Record). z.card) (is-next (up-After-struct_known-in-loop-tally-1 _ _ _ _ _ _ c.before.before.before.before.before)))
+      (cards-accepted (turning (at-record (up-After-struct_known-in-loop-tally-1 _ _ _ _ _ _ c.before.before.before.before.before))) (on (up-After-is_accepted-done _ _ _ _ _ _ c.before.before)).at.going.own (read (up-After-struct_known-in-loop-tally-1 _ _ _ _ _ _ c.before.before.before.before.before)).card (on (up-After-is_accepted-done _ _ _ _ _ _ c.before.before)).at.going.beside (sym c.is_accepted-done.ensures ∙ e) slots cards h)
 
   abbrev Left : Type 0
   Left =
-      Turned (outcome (shares_at (lent c.before.before.before.before.before).shape) (next (lent c.before.before.before.before.before) (here c.before.before.before.before.before)).request (room_of (here c.before.before.before.before.before).slots (here c.before.before.before.before.before).forecast))
-      c.if-done.list c.if-done.forecast c.if-done.bounds c.if-done.table (lent c.before.before.before.before.before).shape (keys_of (here c.before.before.before.before.before).keys (aimed c.before.before.before.before.before))
+      Turned (outcome (shares_at (lent (up-After-struct_known-in-loop-tally-1 _ _ _ _ _ _ c.before.before.before.before.before)).shape) (next (lent (up-After-struct_known-in-loop-tally-1 _ _ _ _ _ _ c.before.before.before.before.before)) (here (up-After-struct_known-in-loop-tally-1 _ _ _ _ _ _ c.before.before.before.before.before))).request (room_of (here (up-After-struct_known-in-loop-tally-1 _ _ _ _ _ _ c.before.before.before.before.before)).slots (here (up-After-struct_known-in-loop-tally-1 _ _ _ _ _ _ c.before.before.before.before.before)).forecast))
+      c.if-done.list c.if-done.forecast c.if-done.bounds c.if-done.table (lent (up-After-struct_known-in-loop-tally-1 _ _ _ _ _ _ c.before.before.before.before.before)).shape (keys_of (here (up-After-struct_known-in-loop-tally-1 _ _ _ _ _ _ c.before.before.before.before.before)).keys (aimed (up-After-struct_known-in-loop-tally-1 _ _ _ _ _ _ c.before.before.before.before.before)))
 
-  settled : Left × CardsThen c.if-done.cards c.if-done.list (next (lent c.before.before.before.before.before) (here c.before.before.before.before.before)).card × Same
+  settled : Left × CardsThen c.if-done.cards c.if-done.list (next (lent (up-After-struct_known-in-loop-tally-1 _ _ _ _ _ _ c.before.before.before.before.before)) (here (up-After-struct_known-in-loop-tally-1 _ _ _ _ _ _ c.before.before.before.before.before))).card × Same
   settled =
       ⊎_elim
       (λ y.
-      let A = acting-here c.before.before y.0.taken in
+      let A = acting-here (up-After-is_accepted-done _ _ _ _ _ _ c.before.before) y.0.taken in
       let N = y.1.ensures _ _ _ A in
       let L = y.8.ensures.0 _ _ A in (
-        again y.17 y.22 y.20 y.19 (turned-accepted (turning (at-record c.before.before.before.before.before)) (sym c.is_accepted-done.ensures ∙ y.0.taken) (record { left = L; forecast = forecast-stays A N y.3.taken })),
+        again y.17 y.22 y.20 y.19 (turned-accepted (turning (at-record (up-After-struct_known-in-loop-tally-1 _ _ _ _ _ _ c.before.before.before.before.before))) (sym c.is_accepted-done.ensures ∙ y.0.taken) (record { left = L; forecast = forecast-stays A N y.3.taken })),
         y.18 ∙ carried _ _ y.0.taken y.8.ensures.1 ∙ ap (cards_beside _) (sym y.17),
         (ap length y.17 ∙ y.8.kept.0, ap length y.18 ∙ y.8.kept.1.0, ap length y.19 ∙ y.8.kept.1.1.0, ap length y.20 ∙ y.8.kept.1.1.1.0, ap length y.21),
       ))
       (⊎_elim
       (λ y.
-      let A = acting-here c.before.before y.0.taken in
+      let A = acting-here (up-After-is_accepted-done _ _ _ _ _ _ c.before.before) y.0.taken in
       let N = y.1.ensures _ _ _ A in
       let L = y.9.ensures.1.0 _ A N in
       let F = y.21.ensures _ _ _ _ _ A N (pos_of_ne-zero y.3.left) _ _ L in (
-        again y.22 y.27 y.25 y.24 (turned-accepted (turning (at-record c.before.before.before.before.before)) (sym c.is_accepted-done.ensures ∙ y.0.taken) (record { left = L; forecast = F })),
+        again y.22 y.27 y.25 y.24 (turned-accepted (turning (at-record (up-After-struct_known-in-loop-tally-1 _ _ _ _ _ _ c.before.before.before.before.before))) (sym c.is_accepted-done.ensures ∙ y.0.taken) (record { left = L; forecast = F })),
         y.23 ∙ carried _ _ y.0.taken y.9.ensures.1.1 ∙ ap (cards_beside _) (sym y.22),
         (ap length y.22 ∙ y.9.kept.0, ap length y.23 ∙ y.9.kept.1.0, ap length y.24 ∙ y.9.kept.1.1.0, ap length y.25 ∙ y.9.kept.1.1.1.0, ap length y.26 ∙ y.9.kept.1.1.1.1.0),
       ))
       (λ y. (
-        again y.1 y.6 y.4 y.3 (turned-refused (turning (at-record c.before.before.before.before.before)) (sym c.is_accepted-done.ensures ∙ y.0.left)),
-        y.2 ∙ cards-refused (turning (at-record c.before.before.before.before.before)) (on c.before.before).at.going.own (next (lent c.before.before.before.before.before) (here c.before.before.before.before.before)).card (on c.before.before).at.going.beside ∙ ap (cards_beside _) (sym y.1),
+        again y.1 y.6 y.4 y.3 (turned-refused (turning (at-record (up-After-struct_known-in-loop-tally-1 _ _ _ _ _ _ c.before.before.before.before.before))) (sym c.is_accepted-done.ensures ∙ y.0.left)),
+        y.2 ∙ cards-refused (turning (at-record (up-After-struct_known-in-loop-tally-1 _ _ _ _ _ _ c.before.before.before.before.before))) (on (up-After-is_accepted-done _ _ _ _ _ _ c.before.before)).at.going.own (next (lent (up-After-struct_known-in-loop-tally-1 _ _ _ _ _ _ c.before.before.before.before.before)) (here (up-After-struct_known-in-loop-tally-1 _ _ _ _ _ _ c.before.before.before.before.before))).card (on (up-After-is_accepted-done _ _ _ _ _ _ c.before.before)).at.going.beside ∙ ap (cards_beside _) (sym y.1),
         (ap length y.1, ap length y.2, ap length y.3, ap length y.4, ap length y.5),
       )))
       c.if-done.branch
@@ -222,8 +223,8 @@ next-tally-requires c =
     }
 
 -- the counts then, by the record's bytes
-counts : (c : After-next-tally) → c.next-tally.result ≡ next_of (here c.before.before.before.before.before.before.before).tally (aimed c.before.before.before.before.before.before.before) (next (lent c.before.before.before.before.before.before.before) (here c.before.before.before.before.before.before.before)).size
-counts c = c.next-tally.ensures ∙ ap (λ (z : Record). next_of (here c.before.before.before.before.before.before.before).tally (aimed c.before.before.before.before.before.before.before) z.size) (is-next c.before.before.before.before.before.before.before)
+counts : (c : After-next-tally) → c.next-tally.result ≡ next_of (here (up-After-struct_known-in-loop-tally-1 _ _ _ _ _ _ c.before.before.before.before.before.before.before)).tally (aimed (up-After-struct_known-in-loop-tally-1 _ _ _ _ _ _ c.before.before.before.before.before.before.before)) (next (lent (up-After-struct_known-in-loop-tally-1 _ _ _ _ _ _ c.before.before.before.before.before.before.before)) (here (up-After-struct_known-in-loop-tally-1 _ _ _ _ _ _ c.before.before.before.before.before.before.before))).size
+counts c = c.next-tally.ensures ∙ ap (λ (z : Record). next_of (here (up-After-struct_known-in-loop-tally-1 _ _ _ _ _ _ c.before.before.before.before.before.before.before)).tally (aimed (up-After-struct_known-in-loop-tally-1 _ _ _ _ _ _ c.before.before.before.before.before.before.before)) z.size) (is-next (up-After-struct_known-in-loop-tally-1 _ _ _ _ _ _ c.before.before.before.before.before.before.before))
 
 pub loop-tally-smaller : goal.loop-tally-smaller
 loop-tally-smaller c = nearer (at-record (goal.at.loop-tally-smaller c).After-struct_known-in-loop-tally-1) (counts (goal.at.loop-tally-smaller c).After-next-tally)

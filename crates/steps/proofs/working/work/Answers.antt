@@ -2,7 +2,6 @@
 -- of the rules is the work on the records that are left.
 use mathlib.Core.Path.{◌≡◌, refl, sym, ap, ◌∙◌, subst}
 use mathlib.Core.Bool.{true}
-use mathlib.Core.Logic.{⊎_elim}
 use mathlib.Core.List.{List}
 use Prim.Native.Nat.{ℕ, ◌-◌, ◌<◌, ◌^◌}
 use native.Mathlib.Nat.{pos_of_ne-zero}
@@ -86,65 +85,73 @@ module _ (c : After-struct_known-in-loop-tally-1) where
 
 -- where nothing stops the run
 module _ (c : After-is_accepted-done) where
-  on : OnRecord (lent (up-After-struct_known-in-loop-tally-1 _ _ _ _ _ _ c.before.before.before.before)) (here (up-After-struct_known-in-loop-tally-1 _ _ _ _ _ _ c.before.before.before.before)) (aimed (up-After-struct_known-in-loop-tally-1 _ _ _ _ _ _ c.before.before.before.before))
-  on = on-record (at-record (up-After-struct_known-in-loop-tally-1 _ _ _ _ _ _ c.before.before.before.before)) (sym c.halts.ensures ∙ c.if-halts.false)
+  abbrev turn : After-struct_known-in-loop-tally-1
+  turn = up-After-struct_known-in-loop-tally-1 _ _ _ _ _ _ c.before.before.before.before
+
+  on : OnRecord (lent turn) (here turn) (aimed turn)
+  on = on-record (at-record turn) (sym c.halts.ensures ∙ c.if-halts.false)
 
   -- where the request is accepted
-  acting-here : c.is_accepted-done.result ≡ true → Acting (here (up-After-struct_known-in-loop-tally-1 _ _ _ _ _ _ c.before.before.before.before)).slots (here (up-After-struct_known-in-loop-tally-1 _ _ _ _ _ _ c.before.before.before.before)).forecast (here (up-After-struct_known-in-loop-tally-1 _ _ _ _ _ _ c.before.before.before.before)).bounds (here (up-After-struct_known-in-loop-tally-1 _ _ _ _ _ _ c.before.before.before.before)).table (lent (up-After-struct_known-in-loop-tally-1 _ _ _ _ _ _ c.before.before.before.before)).shape (aimed (up-After-struct_known-in-loop-tally-1 _ _ _ _ _ _ c.before.before.before.before))
-  acting-here e = acting (turning (at-record (up-After-struct_known-in-loop-tally-1 _ _ _ _ _ _ c.before.before.before.before))) (sym c.is_accepted-done.ensures ∙ e)
+  acting-here : c.is_accepted-done.result ≡ true → Acting (here turn).slots (here turn).forecast (here turn).bounds (here turn).table (lent turn).shape (aimed turn)
+  acting-here e = acting (turning (at-record turn)) (sym c.is_accepted-done.ensures ∙ e)
 
 -- where the ways meet again: what the request leaves, and nothing has another length
 module _ (c : Joined-done) where
+  abbrev joined : After-struct_known-in-loop-tally-1
+  joined = up-After-struct_known-in-loop-tally-1 _ _ _ _ _ _ c.before.before.before.before.before
+
+  abbrev ready : After-is_accepted-done
+  ready = up-After-is_accepted-done _ _ _ _ _ _ c.before.before
+
   abbrev Same : Type 0
   Same =
-      (length c.if-done.list ≡ length (here (up-After-struct_known-in-loop-tally-1 _ _ _ _ _ _ c.before.before.before.before.before)).slots) × (length c.if-done.cards ≡ length (here (up-After-struct_known-in-loop-tally-1 _ _ _ _ _ _ c.before.before.before.before.before)).cards) × (length c.if-done.table ≡ length (here (up-After-struct_known-in-loop-tally-1 _ _ _ _ _ _ c.before.before.before.before.before)).table)
-      × (length c.if-done.bounds ≡ length (here (up-After-struct_known-in-loop-tally-1 _ _ _ _ _ _ c.before.before.before.before.before)).bounds) × (length c.if-done.plan ≡ length c.loop-tally.plan)
+      (length c.if-done.list ≡ length (here joined).slots) × (length c.if-done.cards ≡ length (here joined).cards) × (length c.if-done.table ≡ length (here joined).table)
+      × (length c.if-done.bounds ≡ length (here joined).bounds) × (length c.if-done.plan ≡ length c.loop-tally.plan)
 
   -- the cards then, of any card that came with the request
   abbrev CardsThen : List ℕ → List ℕ → ℕ → Type 0
   CardsThen cards slots v =
       cards
-      ≡ cards_beside (cards_after (outcome (shares_at (lent (up-After-struct_known-in-loop-tally-1 _ _ _ _ _ _ c.before.before.before.before.before)).shape) (next (lent (up-After-struct_known-in-loop-tally-1 _ _ _ _ _ _ c.before.before.before.before.before)) (here (up-After-struct_known-in-loop-tally-1 _ _ _ _ _ _ c.before.before.before.before.before))).request (room_of (here (up-After-struct_known-in-loop-tally-1 _ _ _ _ _ _ c.before.before.before.before.before)).slots (here (up-After-struct_known-in-loop-tally-1 _ _ _ _ _ _ c.before.before.before.before.before)).forecast))
-      (next (lent (up-After-struct_known-in-loop-tally-1 _ _ _ _ _ _ c.before.before.before.before.before)) (here (up-After-struct_known-in-loop-tally-1 _ _ _ _ _ _ c.before.before.before.before.before))).request v (on (up-After-is_accepted-done _ _ _ _ _ _ c.before.before)).at.going.own) slots
+      ≡ cards_beside (cards_after (outcome (shares_at (lent joined).shape) (next (lent joined) (here joined)).request (room_of (here joined).slots (here joined).forecast))
+      (next (lent joined) (here joined)).request v (on ready).at.going.own) slots
 
-  carried : (cards slots : List ℕ) → c.is_accepted-done.result ≡ true → Carries (aimed (up-After-struct_known-in-loop-tally-1 _ _ _ _ _ _ c.before.before.before.before.before)) (read (up-After-struct_known-in-loop-tally-1 _ _ _ _ _ _ c.before.before.before.before.before)).card (here (up-After-struct_known-in-loop-tally-1 _ _ _ _ _ _ c.before.before.before.before.before)).slots (here (up-After-struct_known-in-loop-tally-1 _ _ _ _ _ _ c.before.before.before.before.before)).cards slots cards
-      → CardsThen cards slots (next (lent (up-After-struct_known-in-loop-tally-1 _ _ _ _ _ _ c.before.before.before.before.before)) (here (up-After-struct_known-in-loop-tally-1 _ _ _ _ _ _ c.before.before.before.before.before))).card
+  carried : (cards slots : List ℕ) → c.is_accepted-done.result ≡ true → Carries (aimed joined) (read joined).card (here joined).slots (here joined).cards slots cards
+      → CardsThen cards slots (next (lent joined) (here joined)).card
   carried cards slots e h =
-      subst (CardsThen cards slots) (ap (λ (z : Record). z.card) (is-next (up-After-struct_known-in-loop-tally-1 _ _ _ _ _ _ c.before.before.before.before.before)))
-      (cards-accepted (turning (at-record (up-After-struct_known-in-loop-tally-1 _ _ _ _ _ _ c.before.before.before.before.before))) (on (up-After-is_accepted-done _ _ _ _ _ _ c.before.before)).at.going.own (read (up-After-struct_known-in-loop-tally-1 _ _ _ _ _ _ c.before.before.before.before.before)).card (on (up-After-is_accepted-done _ _ _ _ _ _ c.before.before)).at.going.beside (sym c.is_accepted-done.ensures ∙ e) slots cards h)
+      subst (CardsThen cards slots) (ap (λ (z : Record). z.card) (is-next joined))
+      (cards-accepted (turning (at-record joined)) (on ready).at.going.own (read joined).card (on ready).at.going.beside (sym c.is_accepted-done.ensures ∙ e) slots cards h)
 
   abbrev Left : Type 0
   Left =
-      Turned (outcome (shares_at (lent (up-After-struct_known-in-loop-tally-1 _ _ _ _ _ _ c.before.before.before.before.before)).shape) (next (lent (up-After-struct_known-in-loop-tally-1 _ _ _ _ _ _ c.before.before.before.before.before)) (here (up-After-struct_known-in-loop-tally-1 _ _ _ _ _ _ c.before.before.before.before.before))).request (room_of (here (up-After-struct_known-in-loop-tally-1 _ _ _ _ _ _ c.before.before.before.before.before)).slots (here (up-After-struct_known-in-loop-tally-1 _ _ _ _ _ _ c.before.before.before.before.before)).forecast))
-      c.if-done.list c.if-done.forecast c.if-done.bounds c.if-done.table (lent (up-After-struct_known-in-loop-tally-1 _ _ _ _ _ _ c.before.before.before.before.before)).shape (keys_of (here (up-After-struct_known-in-loop-tally-1 _ _ _ _ _ _ c.before.before.before.before.before)).keys (aimed (up-After-struct_known-in-loop-tally-1 _ _ _ _ _ _ c.before.before.before.before.before)))
+      Turned (outcome (shares_at (lent joined).shape) (next (lent joined) (here joined)).request (room_of (here joined).slots (here joined).forecast))
+      c.if-done.list c.if-done.forecast c.if-done.bounds c.if-done.table (lent joined).shape (keys_of (here joined).keys (aimed joined))
 
-  settled : Left × CardsThen c.if-done.cards c.if-done.list (next (lent (up-After-struct_known-in-loop-tally-1 _ _ _ _ _ _ c.before.before.before.before.before)) (here (up-After-struct_known-in-loop-tally-1 _ _ _ _ _ _ c.before.before.before.before.before))).card × Same
+  settled : Left × CardsThen c.if-done.cards c.if-done.list (next (lent joined) (here joined)).card × Same
   settled =
-      ⊎_elim
-      (λ y.
-      let A = acting-here (up-After-is_accepted-done _ _ _ _ _ _ c.before.before) y.0.taken in
-      let N = y.1.ensures _ _ _ A in
-      let L = y.8.ensures.0 _ _ A in (
-        again y.17 y.22 y.20 y.19 (turned-accepted (turning (at-record (up-After-struct_known-in-loop-tally-1 _ _ _ _ _ _ c.before.before.before.before.before))) (sym c.is_accepted-done.ensures ∙ y.0.taken) (record { left = L; forecast = forecast-stays A N y.3.taken })),
-        y.18 ∙ carried _ _ y.0.taken y.8.ensures.1 ∙ ap (cards_beside _) (sym y.17),
-        (ap length y.17 ∙ y.8.kept.0, ap length y.18 ∙ y.8.kept.1.0, ap length y.19 ∙ y.8.kept.1.1.0, ap length y.20 ∙ y.8.kept.1.1.1.0, ap length y.21),
-      ))
-      (⊎_elim
-      (λ y.
-      let A = acting-here (up-After-is_accepted-done _ _ _ _ _ _ c.before.before) y.0.taken in
-      let N = y.1.ensures _ _ _ A in
-      let L = y.9.ensures.1.0 _ A N in
-      let F = y.21.ensures _ _ _ _ _ A N (pos_of_ne-zero y.3.left) _ _ L in (
-        again y.22 y.27 y.25 y.24 (turned-accepted (turning (at-record (up-After-struct_known-in-loop-tally-1 _ _ _ _ _ _ c.before.before.before.before.before))) (sym c.is_accepted-done.ensures ∙ y.0.taken) (record { left = L; forecast = F })),
-        y.23 ∙ carried _ _ y.0.taken y.9.ensures.1.1 ∙ ap (cards_beside _) (sym y.22),
-        (ap length y.22 ∙ y.9.kept.0, ap length y.23 ∙ y.9.kept.1.0, ap length y.24 ∙ y.9.kept.1.1.0, ap length y.25 ∙ y.9.kept.1.1.1.0, ap length y.26 ∙ y.9.kept.1.1.1.1.0),
-      ))
-      (λ y. (
-        again y.1 y.6 y.4 y.3 (turned-refused (turning (at-record (up-After-struct_known-in-loop-tally-1 _ _ _ _ _ _ c.before.before.before.before.before))) (sym c.is_accepted-done.ensures ∙ y.0.left)),
-        y.2 ∙ cards-refused (turning (at-record (up-After-struct_known-in-loop-tally-1 _ _ _ _ _ _ c.before.before.before.before.before))) (on (up-After-is_accepted-done _ _ _ _ _ _ c.before.before)).at.going.own (next (lent (up-After-struct_known-in-loop-tally-1 _ _ _ _ _ _ c.before.before.before.before.before)) (here (up-After-struct_known-in-loop-tally-1 _ _ _ _ _ _ c.before.before.before.before.before))).card (on (up-After-is_accepted-done _ _ _ _ _ _ c.before.before)).at.going.beside ∙ ap (cards_beside _) (sym y.1),
-        (ap length y.1, ap length y.2, ap length y.3, ap length y.4, ap length y.5),
-      )))
-      c.if-done.branch
+      elim c.if-done.branch [
+        | goal.then-done+then-aim-eq0 w ↦
+            let A = acting-here ready w.if-done.true in
+            let N = w.note-forecast.ensures _ _ _ A in
+            let L = w.shift.ensures.left _ _ A in (
+              again w.list-is w.forecast-is w.bounds-is w.table-is (turned-accepted (turning (at-record joined)) (sym c.is_accepted-done.ensures ∙ w.if-done.true) (record { left = L; forecast = forecast-stays A N w.if-aim-eq0.true })),
+              w.cards-is ∙ carried _ _ w.if-done.true w.shift.ensures.cards ∙ ap (cards_beside _) (sym w.list-is),
+              (ap length w.list-is ∙ w.shift.auto.list, ap length w.cards-is ∙ w.shift.auto.cards, ap length w.table-is ∙ w.shift.auto.table, ap length w.bounds-is ∙ w.shift.auto.bounds, ap length w.plan-is),
+            )
+        | goal.then-done+else-aim-eq0 w ↦
+            let A = acting-here ready w.if-done.true in
+            let N = w.note-forecast.ensures _ _ _ A in
+            let L = w.sweep.ensures.left _ A N in
+            let F = w.retarget-forecast.ensures _ _ _ _ _ A N (pos_of_ne-zero w.if-aim-eq0.false) _ _ L in (
+              again w.list-is w.forecast-is w.bounds-is w.table-is (turned-accepted (turning (at-record joined)) (sym c.is_accepted-done.ensures ∙ w.if-done.true) (record { left = L; forecast = F })),
+              w.cards-is ∙ carried _ _ w.if-done.true w.sweep.ensures.cards ∙ ap (cards_beside _) (sym w.list-is),
+              (ap length w.list-is ∙ w.sweep.auto.list, ap length w.cards-is ∙ w.sweep.auto.cards, ap length w.table-is ∙ w.sweep.auto.table, ap length w.bounds-is ∙ w.sweep.auto.bounds, ap length w.plan-is ∙ w.sweep.auto.plan),
+            )
+        | goal.else-done w ↦ (
+          again w.list-is w.forecast-is w.bounds-is w.table-is (turned-refused (turning (at-record joined)) (sym c.is_accepted-done.ensures ∙ w.if-done.false)),
+          w.cards-is ∙ cards-refused (turning (at-record joined)) (on ready).at.going.own (next (lent joined) (here joined)).card (on ready).at.going.beside ∙ ap (cards_beside _) (sym w.list-is),
+          (ap length w.list-is, ap length w.cards-is, ap length w.table-is, ap length w.bounds-is, ap length w.plan-is),
+        )
+      ]
 
 pub loop-tally-init : goal.loop-tally-init
 loop-tally-init c =
@@ -223,8 +230,10 @@ next-tally-requires c =
     }
 
 -- the counts then, by the record's bytes
-counts : (c : After-next-tally) → c.next-tally.result ≡ next_of (here (up-After-struct_known-in-loop-tally-1 _ _ _ _ _ _ c.before.before.before.before.before.before.before)).tally (aimed (up-After-struct_known-in-loop-tally-1 _ _ _ _ _ _ c.before.before.before.before.before.before.before)) (next (lent (up-After-struct_known-in-loop-tally-1 _ _ _ _ _ _ c.before.before.before.before.before.before.before)) (here (up-After-struct_known-in-loop-tally-1 _ _ _ _ _ _ c.before.before.before.before.before.before.before))).size
-counts c = c.next-tally.ensures ∙ ap (λ (z : Record). next_of (here (up-After-struct_known-in-loop-tally-1 _ _ _ _ _ _ c.before.before.before.before.before.before.before)).tally (aimed (up-After-struct_known-in-loop-tally-1 _ _ _ _ _ _ c.before.before.before.before.before.before.before)) z.size) (is-next (up-After-struct_known-in-loop-tally-1 _ _ _ _ _ _ c.before.before.before.before.before.before.before))
+counts : (c : After-next-tally) → let z = up-After-struct_known-in-loop-tally-1 _ _ _ _ _ _ c.before.before.before.before.before.before.before in c.next-tally.result ≡ next_of (here z).tally (aimed z) (next (lent z) (here z)).size
+counts c =
+    let z = up-After-struct_known-in-loop-tally-1 _ _ _ _ _ _ c.before.before.before.before.before.before.before in
+    c.next-tally.ensures ∙ ap (λ (q : Record). next_of (here z).tally (aimed z) q.size) (is-next z)
 
 pub loop-tally-smaller : goal.loop-tally-smaller
 loop-tally-smaller c = nearer (at-record (goal.at.loop-tally-smaller c).After-struct_known-in-loop-tally-1) (counts (goal.at.loop-tally-smaller c).After-next-tally)

@@ -24,5 +24,5 @@ returns c =
     let worked = c.work_lent-worked.result in
     let long : length c.work_lent-worked.new.list ≡ length c.args.list.now = search rules in
     let t = subst (λ (n : ℕ). TellsSparse c.args.profile c.args.grows worked.last worked.keys n c.is_sparse-sparse.result) long c.is_sparse-sparse.ensures in
-    let one = ap (λ (n : ℕ). records_of (take n c.bytes_of-bytes.result)) c.type_size.ensures.0 ∙ c.bytes_of-bytes.ensures in
+    let one = ap (λ (n : ℕ). records_of (take n c.bytes_of-bytes.result)) c.size_of-n.ensures.0 ∙ c.bytes_of-bytes.ensures in
     requested c.args.profile c.args.grows c.args.key c.args.card (lend c.args.list.now c.args.cards.now c.args.table.now) c.args.forecast _ _ worked _ c.is_sparse-sparse.result t one (omega arith) (roomy (goal.at.returns c).Start) c.work_lent-worked.ensures

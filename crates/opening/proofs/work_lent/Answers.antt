@@ -42,7 +42,7 @@ module _ (c : After-shape-1) where
   looked = c.look_lent-listing.ensures
 
   accepted : listing.verdict ≡ Accepted
-  accepted = c.in-Refused.is
+  accepted = c.in_default.is
 
   stands : Stands given.slots told listing.shape listing.keys
   stands = ready-stands number given told listing looked accepted

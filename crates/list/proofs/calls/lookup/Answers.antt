@@ -23,7 +23,7 @@ returns-in-Refused c = record { answer = refused-told _ _ _ _ _ c.look_read-verd
 
 -- where the check accepts, list, cards and table pass in their profile
 passes : (c : In_default) → let a = c.args in check_read a.profile (lend a.list.now a.cards.now a.table.now) ≡ 0
-passes c = sym c.look_read-verdict.ensures.number ∙ ap verdict_number c.in-Refused.is
+passes c = sym c.look_read-verdict.ensures.number ∙ ap verdict_number c.in_default.is
 
 pub look_up-requires : goal.look_up-requires
 look_up-requires c = (_, passes (goal.at.look_up-requires c).In_default)

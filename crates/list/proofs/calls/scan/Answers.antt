@@ -12,7 +12,7 @@ returns-in-Refused c = refused-admits _ _ _ _ _ _ (sym c.look_read-verdict.ensur
 
 -- where the check accepts, list, cards and table pass in their profile
 passes : (c : In_default) → let a = c.args in check_read a.profile (lend a.list.now a.cards.now a.table.now) ≡ 0
-passes c = sym c.look_read-verdict.ensures.number ∙ ap verdict_number c.in-Refused.is
+passes c = sym c.look_read-verdict.ensures.number ∙ ap verdict_number c.in_default.is
 
 pub scan_from-requires : goal.scan_from-requires
 scan_from-requires c = (_, passes (goal.at.scan_from-requires c).In_default)

@@ -2,17 +2,18 @@
 use Rattle.rules.specs.Lent.{Lent, lend}
 use Rattle.list.proofs.ByVerdict.{answer-refused, insert-done}
 use Rattle.list.proofs.changing.insert.Goals as goal
+use Rattle.list.proofs.changing.insert.Goals.{Start}
 
 -- what is lent
-abbrev lent : tie.Start → Lent
+abbrev lent : Start → Lent
 lent s = lend s.args.list.now s.args.cards.now s.args.table.now
 
 pub returns-in-Refused : goal.returns-in-Refused
 returns-in-Refused c =
     let ask = c.ask-reply in
-    record { answer = answer-refused _ _ _ (lent s) _ ask.result ask.ensures.answer _ c.in-Refused.is; forecast = ask.ensures.forecast; lent-left = ask.ensures.lent-left }
+    record { answer = answer-refused _ _ _ (lent (goal.at.returns-in-Refused c).Start) _ ask.result ask.ensures.answer _ c.in-Refused.is; forecast = ask.ensures.forecast; lent-left = ask.ensures.lent-left }
 
 pub returns : goal.returns
 returns c =
     let ask = c.ask-reply in
-    record { answer = insert-done _ _ _ (lent s) _ ask.result ask.ensures.answer c.enum_told-1.given.1; forecast = ask.ensures.forecast; lent-left = ask.ensures.lent-left }
+    record { answer = insert-done _ _ _ (lent (goal.at.returns c).Start) _ ask.result ask.ensures.answer c.in_default.is; forecast = ask.ensures.forecast; lent-left = ask.ensures.lent-left }

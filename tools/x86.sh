@@ -3,7 +3,7 @@
 #   need_file FILE PACKAGE.. the same where the file is missing
 #   need_compilers           sees to $x86cc and $x86cxx, compilers for x86-64
 #   need_archive             proves crate `host` and sets $archive to its archive (FF_ARCHIVE: another one instead)
-#   need_run_archive         the same of crate `over`: $run_archive (FF_RUN_ARCHIVE)
+#   need_run_archive         the same of crate `told_c`, under the name libtold.a: $run_archive (FF_RUN_ARCHIVE)
 #   need_program NAME        proves a program, runs it once on nothing and sets $program to it; $tools, the kit's folder, has a loader for it
 #   x86 PROGRAM ARG..        runs a statically linked x86-64 program; on an Arm machine under QEMU
 
@@ -48,7 +48,9 @@ need_archive() {
 }
 
 need_run_archive() {
-    run_archive=${FF_RUN_ARCHIVE:-$root/crates/over/out/libover.a}
+    run_archive=${FF_RUN_ARCHIVE:-$root/crates/told_c/out/libtold.a}
+    [ -n "${FF_RUN_ARCHIVE:-}" ] || { in_crate told_c rt lib && cp "$root/crates/told_c/out/libtold_c.a" "$run_archive"; }
+}
     [ -n "${FF_RUN_ARCHIVE:-}" ] || in_crate over rt lib
 }
 

@@ -1,5 +1,5 @@
 -- few_left meets its contract. Invariant: after i turns the part and its cards are those of a movement of i slots.
-use Prim.Native.Nat.{ℕ, ◌-◌}
+use Prim.Native.Nat.{ℕ}
 use mathlib.Core.Path.{◌≡◌, ap, ◌∙◌}
 use native.Mathlib.Omega.{arith}
 use lib.ListN.{length-set}

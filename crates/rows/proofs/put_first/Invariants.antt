@@ -1,5 +1,5 @@
 -- `rows::put_first` meets its contract: those from i on have moved already.
-use Prim.Native.Nat.{◌≤◌, ◌-◌}
+use Prim.Native.Nat.{◌≤◌}
 use mathlib.Core.Path.{◌≡◌}
 use Rattle.rows.proofs.Shifted.{moving}
 use Rattle.rows.proofs.put_first.Given as goal

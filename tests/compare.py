@@ -3,7 +3,7 @@ that are worked whole.
 
     python3 tests/compare.py [--groups A,B] [--heights 1,2] [--first] [--again GROUP:HEIGHT:EPISODE] [COUNT [SEED]]
 
-FF_CC, FF_ARCHIVE, FF_RUN_ARCHIVE and FF_EMULATOR name the compiler, the archives of `host` and `over`, and the emulator if there is one
+FF_CC, FF_ARCHIVE, FF_RUN_ARCHIVE and FF_EMULATOR name the compiler, the archives of `host` and `told`, and the emulator if there is one
 (tests/run sets them).
 """
 import argparse

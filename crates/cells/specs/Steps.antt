@@ -1,6 +1,5 @@
 -- Document 01, "The forecast": what an insert notes, what a delete drops, and where cells aim.
-use Rattle.std.specs.Prelude.{ℕ, ◌+◌, ◌-◌, List, ◌∷◌, map, leb, ltb, eqb, length, take, get_or, set}
-use Rattle.lists.specs.Choice.{if◌then◌else◌}
+use Rattle.std.specs.Prelude.{ℕ, ◌+◌, ◌-◌, List, ◌∷◌, map, leb, ltb, eqb, length, take, get_or, set, if◌then◌else◌}
 use Rattle.lists.specs.Lists.{without}
 use Rattle.cells.specs.declared.Cell.{Cell}
 use Rattle.cells.specs.Cells.{cell, zero_cell, with_count, cell_at}

@@ -1,7 +1,6 @@
 -- Demand 2 with a profile for each ask: on a list made empty, any sequence in any profiles, unknown ones too, is answered as the plain set is,
 -- within the limits of the profile asked in.
-use Rattle.std.specs.Prelude.{ℕ, ◌*◌, ◌^◌, ◌≤◌, ◌≡◌, false, not, List, [], ◌∷◌, ltb, eqb, length}
-use Rattle.lists.specs.Choice.{if◌then◌else◌}
+use Rattle.std.specs.Prelude.{ℕ, ◌*◌, ◌^◌, ◌≤◌, ◌≡◌, false, not, List, [], ◌∷◌, ltb, eqb, length, if◌then◌else◌}
 use Rattle.levels.specs.Tables.{table_size}
 use Rattle.rules.specs.declared.Profile.{Profile}
 use Rattle.rules.specs.Profiles.{number_of, is_profile, profile_of, most, fewest}

@@ -1,7 +1,6 @@
 -- Demand 3 of the public calls, on slots, cards, tables and forecasts as they are lent.
-use Rattle.std.specs.Prelude.{ℕ, suc, ◌<◌, ◌≡◌, List, [], ◌∷◌, eqb}
+use Rattle.std.specs.Prelude.{ℕ, suc, ◌<◌, ◌≡◌, List, [], ◌∷◌, eqb, if◌then◌else◌}
 use Rattle.std.proofs.Math.Option.{some}
-use Rattle.lists.specs.Choice.{if◌then◌else◌}
 use Rattle.lists.specs.Lists.{All}
 use Rattle.slots.specs.Segments.{segments_of}
 use Rattle.slots.specs.Windows.{start, count}

@@ -1,7 +1,6 @@
 -- Requests one after the other, as demand 3 speaks of them.
-use Rattle.std.specs.Prelude.{ℕ, ◌+◌, Bool, true, false, not, ◌&&◌, ◌||◌, List, [], ◌∷◌, leb, eqb}
+use Rattle.std.specs.Prelude.{ℕ, ◌+◌, Bool, true, false, not, ◌&&◌, ◌||◌, List, [], ◌∷◌, leb, eqb, if◌then◌else◌}
 use Rattle.std.proofs.Math.Option.{Option, none, some}
-use Rattle.lists.specs.Choice.{if◌then◌else◌}
 use Rattle.slots.specs.Segments.{Segments}
 use Rattle.slots.specs.Windows.{start}
 use Rattle.slots.specs.Keys.{segment_of}

@@ -1,6 +1,5 @@
 -- A plain sorted set of at most `most` keys, each with its card, and how it answers. It uses nothing of the rules.
-use Rattle.std.specs.Prelude.{ℕ, Bool, true, false, ◌&&◌, List, [], ◌∷◌, ◌++◌, map, leb, ltb, eqb, length, take, drop}
-use Rattle.lists.specs.Choice.{if◌then◌else◌}
+use Rattle.std.specs.Prelude.{ℕ, Bool, true, false, ◌&&◌, List, [], ◌∷◌, ◌++◌, map, leb, ltb, eqb, length, take, drop, if◌then◌else◌}
 
 -- A set of keys is a strictly rising list of numbers.
 abbrev pub has : ℕ → List ℕ → Bool

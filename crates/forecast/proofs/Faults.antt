@@ -10,7 +10,7 @@ use native.Mathlib.Omega.{arith}
 use lib.Dec.{T, T_not, not_T, ltb, ltb→lt, nltb→le}
 use lib.ListN.{length, get_or, length-take, get_or-eq_default}
 use lib.Seq.{get_or-take, length-take-le, ext_get_or}
-use Rattle.lists.specs.Choice.{if◌then◌else◌}
+use Rattle.std.proofs.Common.{if◌then◌else◌}
 use Rattle.lists.specs.Lists.{All, padded}
 use Rattle.lists.specs.Search.{first}
 use Rattle.lists.proofs.Tests.{double-not}

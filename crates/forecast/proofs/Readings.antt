@@ -8,7 +8,7 @@ use native.Mathlib.Omega.{arith}
 use lib.Dec.{T, T_not, leb, ltb, eqb, leb→le, nleb→lt, ltb→lt, nltb→le, eqb→eq}
 use lib.ListN.{length, take, get_or}
 use lib.Seq.{get_or-take, length-take-le}
-use Rattle.lists.specs.Choice.{if◌then◌else◌}
+use Rattle.std.proofs.Common.{if◌then◌else◌}
 use Rattle.lists.specs.Lists.{any_of}
 use Rattle.lists.proofs.Tests.{and_left, and_right, or_cases, neither, double-not, neqb→ne}
 use Rattle.lists.proofs.Members.{mem-at, at_mem}

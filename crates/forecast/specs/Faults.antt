@@ -1,8 +1,7 @@
 -- Refusal 4: the forecast uses over P cells; or a used cell's count is not 1 to P, its marker is another's or neither 0 nor live,
 -- or its segment is wrong; or an unused cell is not all zeros. The first bad cell from the head, and why.
-use Rattle.std.specs.Prelude.{ℕ, Bool, true, false, not, ◌&&◌, ◌||◌, leb, ltb, eqb, length, take, get_or}
+use Rattle.std.specs.Prelude.{ℕ, Bool, true, false, not, ◌&&◌, ◌||◌, leb, ltb, eqb, length, take, get_or, if◌then◌else◌}
 use Rattle.std.proofs.Math.Option.{none, some}
-use Rattle.lists.specs.Choice.{if◌then◌else◌}
 use Rattle.lists.specs.Lists.{any_of}
 use Rattle.lists.specs.Search.{first}
 use Rattle.slots.specs.Segments.{Segments, keys}

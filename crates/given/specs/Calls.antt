@@ -1,7 +1,6 @@
 -- The calls for C programs: what each returns, and what it leaves in each slice that it may write to, in the order of its arguments. Each is
 -- the call of `rules`, with forecast and totals as words.
-use Rattle.std.specs.Prelude.{ℕ, ◌≡◌, Bool, not, ◌||◌, List, [], ◌∷◌, ◌++◌, eqb, ltb, length, drop}
-use Rattle.lists.specs.Choice.{if◌then◌else◌}
+use Rattle.std.specs.Prelude.{ℕ, ◌≡◌, Bool, not, ◌||◌, List, [], ◌∷◌, ◌++◌, eqb, ltb, length, drop, if◌then◌else◌}
 use Rattle.rules.specs.declared.Tally.{Tally}
 use Rattle.rules.specs.Looking.{Found, Scanned}
 use Rattle.rules.specs.Runs.{one}

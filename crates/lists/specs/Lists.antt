@@ -1,7 +1,6 @@
 -- Functions on lists that no library has, over any element type.
-use Rattle.std.specs.Prelude.{ℕ, zero, suc, ◌+◌, ◌-◌, Bool, false, ◌||◌, length, take, drop, replicate}
+use Rattle.std.specs.Prelude.{ℕ, zero, suc, ◌+◌, ◌-◌, Bool, false, ◌||◌, length, take, drop, replicate, cond}
 use mathlib.Core.List.{List, [], ◌∷◌, ◌++◌, Memᴰ}
-use Rattle.lists.specs.Choice.{if◌then◌else◌}
 
 abbrev pub total : List ℕ → ℕ
 total [] = 0
@@ -16,7 +15,7 @@ module _ {ℓ} {A : Type ℓ} where
   -- the elements that pass a test, in order
   abbrev pub only : (A → Bool) → List A → List A
   only p [] = []
-  only p (x ∷ xs) = let rest = only p xs in if p x then x ∷ rest else rest
+  only p (x ∷ xs) = let rest = only p xs in cond (p x) (x ∷ rest) rest
 
   -- some element passes a test
   abbrev pub any_of : (A → Bool) → List A → Bool

@@ -1,7 +1,6 @@
 -- The first that passes a test: of numbers, and of the elements of a list.
-use Rattle.std.specs.Prelude.{ℕ, zero, suc, Bool, List, [], ◌∷◌}
+use Rattle.std.specs.Prelude.{ℕ, zero, suc, Bool, List, [], ◌∷◌, if◌then◌else◌}
 use Rattle.std.proofs.Math.Option.{Option, none, some}
-use Rattle.lists.specs.Choice.{if◌then◌else◌}
 
 -- the first of n numbers from i upward that passes
 abbrev pub first : (ℕ → Bool) → ℕ → ℕ → Option ℕ

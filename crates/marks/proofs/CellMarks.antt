@@ -1,5 +1,5 @@
 -- Marks, cell by cell: what one more cell does to the weights of keys and to their marks.
-use Rattle.std.proofs.Common.{◌≡◌, ℕ, suc, ◌+◌, ◌<◌, ◌≤◌, Bool, true, false, not, T, eqb, ltb, leb, ◌≢◌, List, [], ◌∷◌, ◌++◌, map, length, get_or, take, sym, refl, ap, ◌∙◌, subst, ap₂, inl, inr, add_comm, add-one, arith, T_not, length-take-le, get_or-take, take-suc, ne_eqb, eqb-true}
+use Rattle.std.proofs.Common.{◌≡◌, ℕ, suc, ◌+◌, ◌<◌, ◌≤◌, Bool, true, false, not, T, eqb, ltb, leb, ◌≢◌, List, [], ◌∷◌, ◌++◌, map, length, get_or, take, sym, refl, ap, ◌∙◌, subst, ap₂, inl, inr, add_comm, add-one, arith, T_not, length-take-le, get_or-take, take-suc, ne_eqb, eqb-true, if◌then◌else◌}
 use mathlib.Core.List.Memᴰ.{head as here}
 use mathlib.Core.List.Memᴰ.{not-nil as nowhere}
 use mathlib.Core.List.Memᴰ.{tail as there}
@@ -7,7 +7,6 @@ use mathlib.Core.List.{Memᴰ as Mem}
 use mathlib.Core.List.Memᴰ.{append_left as in_left}
 use mathlib.Core.List.Memᴰ.{append_right as in_right}
 use lib.ListN.{length-map}
-use Rattle.lists.specs.Choice.{if◌then◌else◌}
 use Rattle.lists.specs.Lists.{All, total, insert_at}
 use Rattle.lists.specs.Search.{place_by}
 use Rattle.lists.proofs.Tests.{tested}

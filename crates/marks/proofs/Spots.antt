@@ -1,11 +1,10 @@
 -- Sums of weights over rising keys: one key's weight, weights added, and a weight put among marks.
-use Rattle.std.proofs.Common.{◌≡◌, ℕ, zero, suc, ◌+◌, ◌<◌, ◌≤◌, Bool, true, false, eqb, ltb, leb, ◌≢◌, List, [], ◌∷◌, map, length, get_or, take, sym, refl, inl, inr, arith, le-ltb, lt-ltb, eq-eqb, ne_eqb, leb-false, leb-true}
+use Rattle.std.proofs.Common.{◌≡◌, ℕ, zero, suc, ◌+◌, ◌<◌, ◌≤◌, Bool, true, false, eqb, ltb, leb, ◌≢◌, List, [], ◌∷◌, map, length, get_or, take, sym, refl, inl, inr, arith, le-ltb, lt-ltb, eq-eqb, ne_eqb, leb-false, leb-true, if◌then◌else◌}
 use mathlib.Core.List.Memᴰ.{cases_cons as mem-cases}
 use mathlib.Core.List.Memᴰ.{head as here}
 use mathlib.Core.List.Memᴰ.{not-nil as nowhere}
 use mathlib.Core.List.Memᴰ.{tail as there}
 use native.Mathlib.Decide.{dec_lt}
-use Rattle.lists.specs.Choice.{if◌then◌else◌}
 use Rattle.lists.specs.Lists.{All, total, insert_at}
 use Rattle.lists.specs.Search.{place_by}
 use Rattle.lists.proofs.Members.{at_mem}

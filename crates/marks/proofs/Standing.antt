@@ -1,8 +1,7 @@
 -- Where a marker will stand: how many keys of a window are below it, and what the request does to that number.
-use Rattle.std.proofs.Common.{◌≡◌, ℕ, ◌+◌, ◌-◌, ◌*◌, ◌<◌, ◌≤◌, Bool, true, false, not, T, ltb, ◌≢◌, ◌⊎◌, List, [], ◌∷◌, length, get_or, take, drop, sym, refl, ap, ◌∙◌, inl, inr, arith, length-append, le-ltb, lt-ltb}
+use Rattle.std.proofs.Common.{◌≡◌, ℕ, ◌+◌, ◌-◌, ◌*◌, ◌<◌, ◌≤◌, Bool, true, false, not, T, ltb, ◌≢◌, ◌⊎◌, List, [], ◌∷◌, length, get_or, take, drop, sym, refl, ap, ◌∙◌, inl, inr, arith, length-append, le-ltb, lt-ltb, if◌then◌else◌}
 use mathlib.Core.List.{Memᴰ as Mem}
 use lib.Dec.{not_T}
-use Rattle.lists.specs.Choice.{if◌then◌else◌}
 use Rattle.lists.specs.Lists.{All, total}
 use Rattle.lists.proofs.Tests.{tested, is_true, is_false}
 use Rattle.lists.proofs.Filtered.{only-append}

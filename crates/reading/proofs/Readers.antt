@@ -11,7 +11,7 @@ use borrow.Author.Tests.{eq-eqb, ne_eqb}
 use lib.Dec.{T, not_T, leb, leb→le, nleb→lt}
 use lib.ListN.{length, take, length-append, length-take}
 use lib.Seq.{take-suc, take_all}
-use Rattle.lists.specs.Choice.{if◌then◌else◌}
+use Rattle.std.proofs.Common.{if◌then◌else◌}
 use Rattle.lists.proofs.Tests.{either, tested, nor, is_true, is_false}
 use Rattle.lists.proofs.Filtered.{only-append, only-length}
 use Rattle.lists.proofs.Search.{first-is, first-none}

@@ -1,6 +1,5 @@
 -- What the loops under a reading find, in any slots.
-use Rattle.std.specs.Prelude.{ℕ, ◌-◌, ◌≤◌, ◌<◌, ◌≡◌, not, ◌||◌, ◌≢◌, List, T, leb, eqb, length, take}
-use Rattle.lists.specs.Choice.{if◌then◌else◌}
+use Rattle.std.specs.Prelude.{ℕ, ◌-◌, ◌≤◌, ◌<◌, ◌≡◌, not, ◌||◌, ◌≢◌, List, T, leb, eqb, length, take, if◌then◌else◌}
 use Rattle.slots.specs.declared.Order.{Order}
 use Rattle.slots.specs.declared.Order.TheVariants.{NotRising, AfterGap}
 use Rattle.slots.specs.Segments.{live}

@@ -1,6 +1,5 @@
 -- The request that puts a key in, or takes it out, as a record: its bytes and its card.
-use Rattle.std.specs.Prelude.{ℕ, Bool, true, false, List, ltb, length}
-use Rattle.lists.specs.Choice.{if◌then◌else◌}
+use Rattle.std.specs.Prelude.{ℕ, Bool, true, false, List, ltb, length, if◌then◌else◌}
 use Rattle.rules.specs.declared.Request.{Request}
 use Rattle.rules.specs.declared.Request.TheVariants.{Insert, Delete, Bad}
 use Rattle.rules.specs.declared.Record.{Record}

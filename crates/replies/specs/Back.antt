@@ -1,6 +1,5 @@
 -- What a call leaves in the words of a forecast, by its number.
-use Rattle.std.specs.Prelude.{ℕ, Bool, ◌||◌, List, eqb}
-use Rattle.lists.specs.Choice.{if◌then◌else◌}
+use Rattle.std.specs.Prelude.{ℕ, Bool, ◌||◌, List, eqb, if◌then◌else◌}
 use Rattle.forecast.specs.declared.Forecast.{Forecast}
 use Rattle.words.specs.Words.{forecast_words}
 

@@ -1,8 +1,7 @@
 -- The public calls, on the profile's number and slots, cards, table, forecast, outputs, bytes and totals as they are lent: what each answers
 -- and leaves.
 -- (check stands in Checks.)
-use Rattle.std.specs.Prelude.{ℕ, false, not, List, [], eqb, length, replicate}
-use Rattle.lists.specs.Choice.{if◌then◌else◌}
+use Rattle.std.specs.Prelude.{ℕ, false, not, List, [], eqb, length, replicate, if◌then◌else◌}
 use Rattle.slots.specs.Segments.{height_of, segments_of, render}
 use Rattle.levels.specs.Tables.{table_size}
 use Rattle.forecast.specs.declared.Forecast.{Forecast}

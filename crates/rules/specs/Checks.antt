@@ -1,7 +1,6 @@
 -- Document 01, "Refusal numbers", 1 to 4, and document 02's: 15, which comes first, 12 after 1, 13 after 2, and 14, which comes last: what a
 -- check tests, in order.
-use Rattle.std.specs.Prelude.{ℕ, not, List, ltb, eqb, length}
-use Rattle.lists.specs.Choice.{if◌then◌else◌}
+use Rattle.std.specs.Prelude.{ℕ, not, List, ltb, eqb, length, if◌then◌else◌}
 use Rattle.slots.specs.Segments.{live, height_of, segments_of}
 use Rattle.slots.specs.Orders.{order_of, is_kept}
 use Rattle.levels.specs.Tables.{same}

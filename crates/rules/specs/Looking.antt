@@ -1,6 +1,5 @@
 -- Document 01, "Lookup and scan", with the cards of document 02, (ii), on a list that has passed its check. c is the card of each key.
-use Rattle.std.specs.Prelude.{ℕ, Bool, true, false, List, [], ◌∷◌, ◌++◌, map, ltb, eqb, length, take, drop}
-use Rattle.lists.specs.Choice.{if◌then◌else◌}
+use Rattle.std.specs.Prelude.{ℕ, Bool, true, false, List, [], ◌∷◌, ◌++◌, map, ltb, eqb, length, take, drop, if◌then◌else◌}
 use Rattle.lists.specs.Lists.{any_of}
 use Rattle.slots.specs.Segments.{Segments, keys}
 use Rattle.slots.specs.Keys.{member, above, segment_of}

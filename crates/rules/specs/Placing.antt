@@ -1,7 +1,6 @@
 -- Document 01, "Placing and removing": insert and delete on a list that has passed its check.
-use Rattle.std.specs.Prelude.{ℕ, ◌+◌, ◌^◌, Bool, true, false, not, List, [], leb, ltb, eqb, length, get_or, set}
+use Rattle.std.specs.Prelude.{ℕ, ◌+◌, ◌^◌, Bool, true, false, not, List, [], leb, ltb, eqb, length, get_or, set, if◌then◌else◌}
 use Rattle.std.proofs.Math.Option.{Option, none, some}
-use Rattle.lists.specs.Choice.{if◌then◌else◌}
 use Rattle.lists.specs.Lists.{splice}
 use Rattle.lists.specs.Search.{first}
 use Rattle.slots.specs.Segments.{Segments, keys}

@@ -1,6 +1,5 @@
 -- Document 02, (v): two profiles, which a call names by a number, 1 or 2. Any other number is refused by 15, before all else.
-use Rattle.std.specs.Prelude.{ℕ, Bool, ◌||◌, eqb}
-use Rattle.lists.specs.Choice.{if◌then◌else◌}
+use Rattle.std.specs.Prelude.{ℕ, Bool, ◌||◌, eqb, if◌then◌else◌}
 use Rattle.rules.specs.declared.Profile.{Profile}
 use Rattle.rules.specs.declared.Profile.TheVariants.{First, Second}
 

@@ -1,6 +1,5 @@
 -- Document 01, "Request records and runs", with the records of document 02, (ii), on a list and forecast that have passed their check.
-use Rattle.std.specs.Prelude.{ℕ, zero, suc, ◌+◌, ◌*◌, ◌^◌, ◌%◌, Bool, true, false, not, List, [], ◌∷◌, ltb, eqb, length, take, drop, get_or}
-use Rattle.lists.specs.Choice.{if◌then◌else◌}
+use Rattle.std.specs.Prelude.{ℕ, zero, suc, ◌+◌, ◌*◌, ◌^◌, ◌%◌, Bool, true, false, not, List, [], ◌∷◌, ltb, eqb, length, take, drop, get_or, if◌then◌else◌}
 use Rattle.rules.specs.declared.Request.{Request}
 use Rattle.rules.specs.declared.Request.TheVariants.{Insert, Delete, Bad}
 -- A record: what it asks for, the card that comes with it, and its number of bytes.

@@ -1,6 +1,5 @@
 -- Document 01, "Sharing out a swept window": how many keys each segment gets, and the keys dealt out so.
-use Rattle.std.specs.Prelude.{ℕ, zero, suc, ◌+◌, ◌-◌, ◌*◌, ◌/◌, ◌^◌, min, max, Bool, List, [], ◌∷◌, ◌++◌, map, ltb, eqb, length, take, drop}
-use Rattle.lists.specs.Choice.{if◌then◌else◌}
+use Rattle.std.specs.Prelude.{ℕ, zero, suc, ◌+◌, ◌-◌, ◌*◌, ◌/◌, ◌^◌, min, max, Bool, List, [], ◌∷◌, ◌++◌, map, ltb, eqb, length, take, drop, if◌then◌else◌}
 use Rattle.lists.specs.Lists.{total, deal}
 use Rattle.slots.specs.Segments.{Segments}
 use Rattle.rules.specs.Shares.{Shares}

@@ -1,6 +1,5 @@
 -- What the writing of keys and cards into lent outputs leaves and tells.
-use Rattle.std.specs.Prelude.{ℕ, ◌+◌, ◌≡◌, List, [], ◌++◌, map, ltb, length, take, drop, get_or}
-use Rattle.lists.specs.Choice.{if◌then◌else◌}
+use Rattle.std.specs.Prelude.{ℕ, ◌+◌, ◌≡◌, List, [], ◌++◌, map, ltb, length, take, drop, get_or, if◌then◌else◌}
 use Rattle.slots.specs.Segments.{Segments, keys}
 use Rattle.scans.specs.declared.Written.{Written}
 

@@ -1,6 +1,5 @@
 -- A number for each of 64 segments, by which a key's segment is found: one less than the first key from the segment on.
-use Rattle.std.specs.Prelude.{ℕ, zero, suc, ◌-◌, ◌^◌, ◌≤◌, ◌<◌, ◌≡◌, ◌≢◌, List, [], ◌∷◌, eqb, length, drop, get_or}
-use Rattle.lists.specs.Choice.{if◌then◌else◌}
+use Rattle.std.specs.Prelude.{ℕ, zero, suc, ◌-◌, ◌^◌, ◌≤◌, ◌<◌, ◌≡◌, ◌≢◌, List, [], ◌∷◌, eqb, length, drop, get_or, if◌then◌else◌}
 use Rattle.slots.specs.Segments.{Segments, keys}
 use Rattle.slots.specs.Shown.{Shows}
 use Rattle.levels.specs.Tables.{table_of}

@@ -1,6 +1,5 @@
 -- Six steps up, by 32, 16, 8, 4, 2 and 1, each taken where the entry there passes a test.
-use Rattle.std.specs.Prelude.{ℕ, ◌+◌, ◌≤◌, ◌<◌, ◌≡◌, Bool, not, ◌⊎◌, List, T, ltb, get_or}
-use Rattle.lists.specs.Choice.{if◌then◌else◌}
+use Rattle.std.specs.Prelude.{ℕ, ◌+◌, ◌≤◌, ◌<◌, ◌≡◌, Bool, not, ◌⊎◌, List, T, ltb, get_or, if◌then◌else◌}
 
 unfoldable pub climb : (ℕ → Bool) → ℕ → ℕ → ℕ
 climb t s step = if t (s + step) then s + step else s

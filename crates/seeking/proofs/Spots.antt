@@ -1,8 +1,7 @@
 -- The place of a key in the segment where a search for it ends, from the last slot that holds a key up to it.
-use Rattle.std.proofs.Common.{◌≡◌, ℕ, ◌+◌, ◌-◌, ◌*◌, ◌<◌, ◌≤◌, Bool, true, false, not, T, eqb, ltb, ◌≢◌, ◌⊎◌, List, [], length, get_or, sym, refl, ap, ◌∙◌, subst, inl, inr, ne_of_gt, ne_of_lt, arith, ltb→lt, lt→ltb, T_not, le-ltb, lt-ltb, eq-eqb, ne_eqb}
+use Rattle.std.proofs.Common.{◌≡◌, ℕ, ◌+◌, ◌-◌, ◌*◌, ◌<◌, ◌≤◌, Bool, true, false, not, T, eqb, ltb, ◌≢◌, ◌⊎◌, List, [], length, get_or, sym, refl, ap, ◌∙◌, subst, inl, inr, ne_of_gt, ne_of_lt, arith, ltb→lt, lt→ltb, T_not, le-ltb, lt-ltb, eq-eqb, ne_eqb, if◌then◌else◌}
 use native.Mathlib.Decide.{dec_lt}
 use lib.ListN.{get_or-eq_default}
-use Rattle.lists.specs.Choice.{if◌then◌else◌}
 use Rattle.lists.proofs.Members.{at_mem}
 use Rattle.lists.proofs.Filtered.{only-length}
 use Rattle.slots.specs.Segments.{Segments, keys}

@@ -20,7 +20,7 @@ use lib.Dec.{T, T_not, ltb, eqb, ltb→lt, lt→ltb, nltb→le, eqb→eq, eqb_re
 use borrow.Author.Tests.{ne_eqb}
 use lib.ListN.{length, take, drop, get_or, set, take-append-drop}
 use lib.Seq.{split_at, set_split, drop-drop}
-use Rattle.lists.specs.Choice.{if◌then◌else◌}
+use Rattle.std.proofs.Common.{if◌then◌else◌}
 use Rattle.lists.specs.Lists.{All, joined, splice}
 use Rattle.lists.specs.Search.{place_by}
 use Rattle.lists.proofs.Tests.{either}

@@ -10,7 +10,7 @@ use native.Mathlib.Omega.{arith}
 use lib.Dec.{T, T_not, leb, eqb, leb→le, le→leb, eqb→eq}
 use lib.ListN.{length, take, drop, get_or, replicate, length-take, length-drop, get_or-eq_default}
 use lib.Seq.{get_or-take, get_or-drop}
-use Rattle.lists.specs.Choice.{if◌then◌else◌}
+use Rattle.std.proofs.Common.{if◌then◌else◌}
 use Rattle.lists.specs.Lists.{any_of}
 use Rattle.lists.specs.Search.{first}
 use Rattle.lists.proofs.Tests.{either, tested, and_left, and_right, and_both, or_left, or_right, or_cases, neqb→ne, ne→neqb, eq→eqb}

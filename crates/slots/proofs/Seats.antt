@@ -11,7 +11,7 @@ use native.Mathlib.Omega.{arith}
 use lib.Dec.{T, ltb, eqb}
 use borrow.Author.Tests.{ne_eqb, eq-eqb}
 use lib.ListN.{length, drop, get_or}
-use Rattle.lists.specs.Choice.{if◌then◌else◌}
+use Rattle.std.proofs.Common.{if◌then◌else◌}
 use Rattle.lists.specs.Lists.{All}
 use Rattle.lists.proofs.Tests.{same_test, tested, is_true, is_false}
 use Rattle.lists.proofs.Members.{mem-at, at_mem}

@@ -1,6 +1,5 @@
 -- Where a key stands among the keys, and the segment that it is in.
-use Rattle.std.specs.Prelude.{ℕ, ◌<◌, Bool, true, false, List, [], ◌∷◌, ◌++◌, ltb, eqb}
-use Rattle.lists.specs.Choice.{if◌then◌else◌}
+use Rattle.std.specs.Prelude.{ℕ, ◌<◌, Bool, true, false, List, [], ◌∷◌, ◌++◌, ltb, eqb, if◌then◌else◌}
 use Rattle.lists.specs.Lists.{All, only, any_of}
 use Rattle.lists.specs.Search.{place_by}
 use Rattle.slots.specs.Segments.{Segments, keys}

@@ -1,7 +1,6 @@
 -- Refusal 2: keys not strictly rising, or a key after a gap in a segment. The first slot that breaks this, order tested first.
-use Rattle.std.specs.Prelude.{ℕ, ◌*◌, ◌/◌, Bool, ◌&&◌, ◌||◌, List, leb, eqb, length, take, drop, get_or}
+use Rattle.std.specs.Prelude.{ℕ, ◌*◌, ◌/◌, Bool, ◌&&◌, ◌||◌, List, leb, eqb, length, take, drop, get_or, if◌then◌else◌}
 use Rattle.std.proofs.Math.Option.{none, some}
-use Rattle.lists.specs.Choice.{if◌then◌else◌}
 use Rattle.lists.specs.Lists.{any_of}
 use Rattle.lists.specs.Search.{first}
 use Rattle.slots.specs.declared.Order.{Order}

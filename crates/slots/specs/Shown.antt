@@ -1,6 +1,5 @@
 -- What it is for slots to show segments, as the promises of searches and counts say it.
-use Rattle.std.specs.Prelude.{ℕ, ◌/◌, ◌≤◌, ◌<◌, ◌≡◌, List, [], ◌++◌, map, T, length, take, drop, get_or}
-use Rattle.lists.specs.Choice.{if◌then◌else◌}
+use Rattle.std.specs.Prelude.{ℕ, ◌/◌, ◌≤◌, ◌<◌, ◌≡◌, List, [], ◌++◌, map, T, length, take, drop, get_or, if◌then◌else◌}
 use Rattle.lists.specs.Lists.{All, total, splice}
 use Rattle.slots.specs.declared.Reading.{Reading}
 use Rattle.slots.specs.declared.Place.{Place}

@@ -6,7 +6,7 @@ use native.Mathlib.Nat.{add-zero, add-sub_of_le, le_refl, le_of_lt, mul-le-mul_r
 use native.Mathlib.Decide.{dec_lt}
 use native.Mathlib.Omega.{arith}
 use borrow.Author.Tests.{lt-ltb, le-ltb, ltb-true, ltb-false}
-use Rattle.lists.specs.Choice.{if◌then◌else◌}
+use Rattle.std.proofs.Common.{if◌then◌else◌}
 use Rattle.lists.proofs.Tests.{either}
 use Rattle.rules.specs.SharingOut.{Fraction, less, distance, least}
 use Rattle.rules.specs.Readings.{AtMost, Below}

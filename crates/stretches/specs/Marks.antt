@@ -1,6 +1,5 @@
 -- The weights of a window's keys, by the places of the few that weigh.
-use Rattle.std.specs.Prelude.{ℕ, ◌+◌, ◌≤◌, ◌<◌, ◌≡◌, List, [], ◌∷◌, ltb, length, take}
-use Rattle.lists.specs.Choice.{if◌then◌else◌}
+use Rattle.std.specs.Prelude.{ℕ, ◌+◌, ◌≤◌, ◌<◌, ◌≡◌, List, [], ◌∷◌, ltb, length, take, if◌then◌else◌}
 use Rattle.lists.specs.Lists.{All, total}
 use Rattle.slots.specs.Keys.{Rising}
 

@@ -1,6 +1,5 @@
 -- A part of a packed window with the marks in it, its marks passed up to one of its keys, and how far a stretch reaches.
-use Rattle.std.specs.Prelude.{ℕ, ◌+◌, ◌-◌, ◌≤◌, min, ◌≡◌, List, leb, ltb, length, take, drop, get_or}
-use Rattle.lists.specs.Choice.{if◌then◌else◌}
+use Rattle.std.specs.Prelude.{ℕ, ◌+◌, ◌-◌, ◌≤◌, min, ◌≡◌, List, leb, ltb, length, take, drop, get_or, if◌then◌else◌}
 use Rattle.lists.specs.Lists.{total}
 use Rattle.lists.specs.Search.{place_by}
 use Rattle.stretches.specs.declared.Part.{Part}

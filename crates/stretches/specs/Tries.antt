@@ -1,6 +1,5 @@
 -- What one try, the nearer of two, and the looks at a stretch give: formula 6 of document 01 by the weights left and right.
-use Rattle.std.specs.Prelude.{ℕ, ◌+◌, ◌-◌, ◌*◌, ◌/◌, ◌≤◌, ◌<◌, max, min}
-use Rattle.lists.specs.Choice.{if◌then◌else◌}
+use Rattle.std.specs.Prelude.{ℕ, ◌+◌, ◌-◌, ◌*◌, ◌/◌, ◌≤◌, ◌<◌, max, min, if◌then◌else◌}
 use Rattle.rules.specs.SharingOut.{Fraction, distance, less}
 use Rattle.stretches.specs.declared.Stretch.{Stretch}
 use Rattle.stretches.specs.declared.Tried.{Tried}

@@ -8,7 +8,7 @@ use native.Mathlib.Omega.{arith}
 use lib.Dec.{eqb}
 use lib.ListN.{length, get_or, length-map}
 use lib.Seq.{take_all, take-append-le}
-use Rattle.lists.specs.Choice.{if◌then◌else◌}
+use Rattle.std.proofs.Common.{if◌then◌else◌}
 use Rattle.slots.specs.Segments.{Segments, keys, segments_of}
 use Rattle.slots.specs.Windows.{start, window, count}
 use Rattle.slots.proofs.Windows.{start-le, lt-end, start_fits}

@@ -1,8 +1,7 @@
 // A sweep: its plan, made before anything is written, and the sweep by it.
 #![tactic(auto)]
 
-ghost use Rattle.std.specs.Prelude.{◌≡◌, true, List, map, ℕ, ◌+◌, ◌^◌, ◌≤◌, eqb, length, get_or};
-ghost use Rattle.lists.specs.Choice.{if◌then◌else◌};
+ghost use Rattle.std.specs.Prelude.{◌≡◌, true, List, map, ℕ, ◌+◌, ◌^◌, ◌≤◌, eqb, length, get_or, if◌then◌else◌};
 ghost use Rattle.lists.specs.Lists.{splice};
 ghost use Rattle.slots.specs.Segments.{Segments};
 ghost use Rattle.levels.specs.Tables.{table_of};

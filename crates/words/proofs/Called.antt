@@ -9,7 +9,7 @@ use native.Mathlib.Nat.{pow-le-pow_right}
 use native.Mathlib.Omega.{arith}
 use lib.Dec.{T, eqb, eqb→eq}
 use lib.ListN.{length}
-use Rattle.lists.specs.Choice.{if◌then◌else◌}
+use Rattle.std.proofs.Common.{if◌then◌else◌}
 use Rattle.lists.proofs.Tests.{tested, neqb→ne}
 use Rattle.slots.specs.Segments.{Segments, height_of, segments_of}
 use Rattle.slots.proofs.Render.{length-segments}

@@ -1,6 +1,5 @@
 -- A forecast as words, and what bytes hold of it.
-use Rattle.std.specs.Prelude.{ℕ, zero, suc, List, [], ◌∷◌, map, leb, drop, get_or}
-use Rattle.lists.specs.Choice.{if◌then◌else◌}
+use Rattle.std.specs.Prelude.{ℕ, zero, suc, List, [], ◌∷◌, map, leb, drop, get_or, if◌then◌else◌}
 use Rattle.cells.specs.declared.Cell.{Cell}
 use Rattle.cells.specs.Cells.{cell}
 use Rattle.forecast.specs.declared.Forecast.{Forecast}

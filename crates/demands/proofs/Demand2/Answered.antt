@@ -7,7 +7,7 @@ use native.Mathlib.Nat.{mul_comm}
 use lib.Dec.{T, ltb, eqb}
 use borrow.Author.Tests.{eq-eqb, ne_eqb}
 use lib.ListN.{length}
-use Rattle.lists.specs.Choice.{if◌then◌else◌}
+use Rattle.std.proofs.Common.{if◌then◌else◌}
 use Rattle.lists.specs.Lists.{All}
 use Rattle.lists.proofs.Tests.{eq→eqb}
 use Rattle.slots.specs.Segments.{keys, live, height_of, segments_of, render}

@@ -9,7 +9,7 @@ use native.Mathlib.Nat.{mul-sub, mul-le-mul_left, le_of_lt}
 use native.Mathlib.Omega.{arith}
 use lib.Dec.{T, leb, eqb, leb→le, eqb→eq}
 use lib.ListN.{length, get_or, drop}
-use Rattle.lists.specs.Choice.{if◌then◌else◌}
+use Rattle.std.proofs.Common.{if◌then◌else◌}
 use Rattle.lists.proofs.Tests.{and_left, and_both, neither, neqb→ne, eq→eqb}
 use Rattle.slots.specs.Segments.{Segments}
 use Rattle.slots.specs.Windows.{start, count}

@@ -8,7 +8,7 @@ use native.Mathlib.Omega.{arith}
 use lib.Dec.{T, ltb, eqb, eqb→eq}
 use borrow.Author.Tests.{eq-eqb, ne_eqb, lt-ltb, le-ltb}
 use lib.ListN.{length}
-use Rattle.lists.specs.Choice.{if◌then◌else◌}
+use Rattle.std.proofs.Common.{if◌then◌else◌}
 use Rattle.slots.specs.Segments.{live, height_of, segments_of}
 use Rattle.slots.specs.Orders.{order_of, is_kept}
 use Rattle.forecast.specs.declared.Forecast.{Forecast}

@@ -5,7 +5,7 @@ use mathlib.Core.Logic.{◌≢◌}
 use mathlib.Core.List.{[]}
 use lib.Dec.{T, eqb, eqb→eq}
 use lib.ListN.{length, replicate}
-use Rattle.lists.specs.Choice.{if◌then◌else◌}
+use Rattle.std.proofs.Common.{if◌then◌else◌}
 use Rattle.slots.specs.Segments.{height_of, segments_of, keys}
 use Rattle.slots.specs.Keys.{member, segment_of}
 use Rattle.levels.specs.Tables.{table_size}

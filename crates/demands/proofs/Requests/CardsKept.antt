@@ -6,7 +6,7 @@ use mathlib.Core.List.{Memᴰ as Mem}
 use Prim.Native.Nat.{ℕ}
 use native.Mathlib.Omega.{arith}
 use lib.Dec.{T, eqb}
-use Rattle.lists.specs.Choice.{if◌then◌else◌}
+use Rattle.std.proofs.Common.{if◌then◌else◌}
 use Rattle.lists.specs.Lists.{All}
 use Rattle.lists.proofs.Tests.{neqb→ne}
 use Rattle.slots.specs.Segments.{Segments, keys, render}

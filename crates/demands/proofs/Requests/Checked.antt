@@ -8,7 +8,7 @@ use native.Mathlib.Omega.{arith}
 use lib.Dec.{T, ltb, eqb, eqb→eq, nltb→le}
 use borrow.Author.Tests.{le-ltb, eq-eqb, ne_eqb}
 use lib.ListN.{length}
-use Rattle.lists.specs.Choice.{if◌then◌else◌}
+use Rattle.std.proofs.Common.{if◌then◌else◌}
 use Rattle.lists.proofs.Tests.{neqb→ne, is_true}
 use Rattle.slots.specs.Segments.{keys, live, height_of, segments_of, render}
 use Rattle.slots.specs.Orders.{order_of, is_kept}

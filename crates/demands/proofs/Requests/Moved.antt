@@ -9,7 +9,7 @@ use native.Mathlib.Nat.{pow-zero}
 use native.Mathlib.Omega.{arith}
 use lib.Dec.{T, ltb, eqb, eqb→eq, ltb→lt, nltb→le}
 use lib.ListN.{length, get_or, set, length-set}
-use Rattle.lists.specs.Choice.{if◌then◌else◌}
+use Rattle.std.proofs.Common.{if◌then◌else◌}
 use Rattle.lists.proofs.Tests.{neqb→ne}
 use Rattle.lists.proofs.Search.{Firsts}
 use Rattle.slots.specs.Segments.{Segments, keys}

@@ -9,7 +9,7 @@ use lib.Dec.{T, T_not, ltb, eqb, ltb→lt, nltb→le, eqb→eq}
 use borrow.Author.Tests.{eq-eqb}
 use lib.ListN.{length, drop, get_or, length-drop}
 use lib.Seq.{get_or-drop}
-use Rattle.lists.specs.Choice.{if◌then◌else◌}
+use Rattle.std.proofs.Common.{if◌then◌else◌}
 use Rattle.lists.proofs.Tests.{either, neqb→ne}
 use Rattle.rules.specs.declared.Request.{Request}
 use Rattle.rules.specs.declared.Request.TheVariants.{Insert, Delete, Bad}

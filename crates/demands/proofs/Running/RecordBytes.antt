@@ -10,7 +10,7 @@ use lib.Dec.{T, ltb, eqb, eqb→eq, nltb→le}
 use borrow.Author.Tests.{le-ltb, lt-ltb}
 use lib.ListN.{length, take, drop, get_or, length-take}
 use lib.Seq.{take-nil, drop-nil, take-take, get_or-take, length-take-le, take-append-le}
-use Rattle.lists.specs.Choice.{if◌then◌else◌}
+use Rattle.std.proofs.Common.{if◌then◌else◌}
 use Rattle.lists.proofs.Tests.{either, is_true}
 use Rattle.rules.specs.declared.Request.TheVariants.{Insert, Delete, Bad}
 use Rattle.rules.specs.declared.Record.{Record}

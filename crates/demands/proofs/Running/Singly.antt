@@ -5,7 +5,7 @@ use mathlib.Core.List.{List, [], ◌∷◌}
 use Prim.Native.Nat.{ℕ, ◌+◌, ◌≤◌}
 use lib.Dec.{T, ltb, eqb}
 use lib.ListN.{length, take}
-use Rattle.lists.specs.Choice.{if◌then◌else◌}
+use Rattle.std.proofs.Common.{if◌then◌else◌}
 use Rattle.lists.proofs.Tests.{neqb→ne}
 use Rattle.slots.specs.Segments.{height_of, segments_of, render}
 use Rattle.forecast.specs.declared.Forecast.{Forecast}

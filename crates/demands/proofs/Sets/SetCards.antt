@@ -7,7 +7,7 @@ use mathlib.Core.List.{List, [], ◌∷◌, ◌++◌, map}
 use Prim.Native.Nat.{ℕ}
 use lib.Dec.{T, ltb, eqb}
 use lib.ListN.{length, take, drop}
-use Rattle.lists.specs.Choice.{if◌then◌else◌}
+use Rattle.std.proofs.Common.{if◌then◌else◌}
 use Rattle.lists.specs.Lists.{All}
 use Rattle.lists.proofs.Members.{mem-take}
 use Rattle.demands.specs.PlainSet as set

@@ -5,7 +5,7 @@ use mathlib.Core.List.{List, Memᴰ as Mem}
 use Prim.Native.Nat.{ℕ}
 use lib.Dec.{T, leb, ltb, eqb}
 use lib.ListN.{length}
-use Rattle.lists.specs.Choice.{if◌then◌else◌}
+use Rattle.std.proofs.Common.{if◌then◌else◌}
 use Rattle.slots.specs.Segments.{keys}
 use Rattle.slots.specs.Keys.{Listed, member, segment_of}
 use Rattle.slots.proofs.Keys.{member→mem, live-between, keys-cut}

@@ -10,7 +10,7 @@ use native.Mathlib.Omega.{arith}
 use lib.Dec.{T, ltb→lt, nltb→le}
 use borrow.Author.Tests.{ne_eqb}
 use lib.ListN.{length}
-use Rattle.lists.specs.Choice.{if◌then◌else◌}
+use Rattle.std.proofs.Common.{if◌then◌else◌}
 use Rattle.lists.specs.Lists.{total}
 use Rattle.slots.proofs.Windows.{pow_pos, double}
 use Rattle.rules.specs.Shares.{Shares, Lawful}

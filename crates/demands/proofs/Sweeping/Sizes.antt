@@ -12,7 +12,7 @@ use lib.Dec.{T, ltb, ltb→lt, nltb→le}
 use borrow.Author.Tests.{le-ltb}
 use lib.ListN.{length, take, drop, get_or, set, length-set}
 use lib.Seq.{get_or-set_same, take-set-le, drop-set-lt}
-use Rattle.lists.specs.Choice.{if◌then◌else◌}
+use Rattle.std.proofs.Common.{if◌then◌else◌}
 use Rattle.lists.specs.Lists.{All}
 use Rattle.lists.proofs.Members.{mem-at, at_mem, mem-take, mem-drop, mem-set}
 use Rattle.slots.specs.Segments.{Segments, keys}

@@ -12,7 +12,7 @@ use native.Mathlib.Omega.{arith}
 use lib.Dec.{T}
 use lib.ListN.{length, get_or, set}
 use lib.Seq.{set_out}
-use Rattle.lists.specs.Choice.{if◌then◌else◌}
+use Rattle.std.proofs.Common.{if◌then◌else◌}
 use Rattle.lists.specs.Search.{place_by}
 use Rattle.lists.proofs.Tests.{same_test}
 use Rattle.lists.proofs.Members.{at_mem, mem-take, mem-set}

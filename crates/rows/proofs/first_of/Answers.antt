@@ -6,7 +6,7 @@ use mathlib.Core.List.{List, [], ◌∷◌}
 use native.Mathlib.Omega.{arith}
 use borrow.Author.Tests.{eq-eqb, ne_eqb}
 use lib.ListN.{take}
-use Rattle.lists.specs.Choice.{if◌then◌else◌}
+use Rattle.std.proofs.Common.{if◌then◌else◌}
 use Rattle.lists.specs.Search.{place_by}
 use Rattle.lists.proofs.Searched.{passed-hit, passed-more, passed-all}
 use Rattle.rows.proofs.first_of.Goals as goal

@@ -51,8 +51,6 @@ need_run_archive() {
     run_archive=${FF_RUN_ARCHIVE:-$root/crates/told_c/out/libtold.a}
     [ -n "${FF_RUN_ARCHIVE:-}" ] || { in_crate told_c rt lib && cp "$root/crates/told_c/out/libtold_c.a" "$run_archive"; }
 }
-    [ -n "${FF_RUN_ARCHIVE:-}" ] || in_crate over rt lib
-}
 
 need_program() {
     program=$root/crates/$1/out/$1

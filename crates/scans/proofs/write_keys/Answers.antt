@@ -15,7 +15,6 @@ use Rattle.scans.proofs.write_keys.Invariants.{Counted}
 use Rattle.scans.proofs.write_keys.Goals as goal
 use Rattle.scans.proofs.write_keys.Goals.{Start}
 
--- the counts are those of the segments
 -- a segment of the list has 64 keys at most
 few : (c : Start) (k : ℕ) → 64 * k + 64 ≤ length c.args.list.now → get_or c.args.counts.now k 0 ≤ 64
 few c k h = c.requires.first_in_bounds.3 k (omega arith)

@@ -10,6 +10,7 @@ use Rattle.scans.specs.Scans.{keys_from}
 use Rattle.scans.proofs.Pages.{Halfway}
 use Rattle.scans.proofs.write_keys.Given as goal
 
+-- the counts are those of the segments
 abbrev pub Counted : List ℕ → Segments → Type 0
 Counted counts ss = (k : ℕ) → k < length ss → get_or counts k 0 ≡ length (get_or ss k [])
 

@@ -25,7 +25,7 @@ use Rattle.rules.specs.Shares.{Shares, sparse_below, cells_of}
 use Rattle.rules.specs.Placing.{Room, Outcome, home, put_in, cut_from, chosen, insert_level, delete_level, sweep, settled, insert_key, delete_key, outcome}
 use Rattle.demands.specs.History.{accepted}
 use Rattle.rules.specs.Calls.{room_of}
-use Rattle.demands.proofs.Sharing.Climb.{climb-is}
+use Rattle.demands.proofs.Sharing.Climb.{climb_is}
 use Rattle.demands.proofs.Sharing.Weighing.{noted-good, dropped-good}
 use Rattle.demands.proofs.Sweeping.Settled.{AtMost}
 use Rattle.demands.proofs.Sweeping.Unswept.{noted-placed, dropped-placed, unswept-insert, unswept-delete}
@@ -69,7 +69,7 @@ module _ (S : Shares) (y : ℕ) (R : Room) where
   -- the level is one of the list's
   chosen-most : (s : ℕ) (ms : Segments) (o : Option ℕ) → chosen S s ms ≡ o → AtMost S.height o
   chosen-most s ms none e = tt
-  chosen-most s ms (some l) e = (((climb-is S s ms).0 l).0 e).to
+  chosen-most s ms (some l) e = (((climb_is S s ms).0 l).0 e).to
 
   level-most : (g : Bool) → AtMost S.height (level_for S g y R.segments)
   unfolding insert_level delete_level

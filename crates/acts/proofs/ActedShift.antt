@@ -109,7 +109,7 @@ module _ {slots : List ℕ} {F : Forecast} {bounds table : List ℕ} {k : Shape}
   left_by : r.level ≡ 0 → {slots' bounds' table' : List ℕ} → Indexed (done_in r.grows r.key (segments_of slots)) slots' bounds' table' → Left (outcome_of slots F k r) slots' bounds' table'
   left_by e {slots'} {bounds'} {table'} i =
       let j : Indexed (outcome_of slots F k r).room.segments slots' bounds' table' = subst (λ (ts : Segments). Indexed ts slots' bounds' table') (sym (segments-stay A e)) i in
-      record { slots-left = j.shows.whole; index = j }
+      record { slots_left = j.shows.whole; index = j }
 
   pub shifted_in : r.grows ≡ true → r.level ≡ 0 → {slots' table' : List ℕ}
       → ((ts : Segments) (bs : List ℕ) → Indexed ts slots bs table → Located r.key ts (record { segment = r.segment; held = r.held; at = r.at; present = not r.grows })

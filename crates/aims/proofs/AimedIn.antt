@@ -25,7 +25,7 @@ use Rattle.rules.specs.Shares.{Shares, capacity}
 use Rattle.rules.specs.Placing.{Room, home, put_in, chosen, insert_level}
 use Rattle.rules.specs.Readings.{Smallest}
 use Rattle.rules.specs.Calls.{room_of}
-use Rattle.demands.proofs.Sharing.Climb.{climb-is}
+use Rattle.demands.proofs.Sharing.Climb.{climb_is}
 use Rattle.demands.proofs.Sweeping.Sizes.{insert-always-finds}
 use Rattle.demands.proofs.Requests.OutcomeCases.{outcome-insert-zero, outcome-insert-present, outcome-insert-full, insert-shifted, insert-swept}
 use Rattle.shares.specs.declared.Shape.{Shape}
@@ -120,7 +120,7 @@ module _ {slots : List ℕ} {F : Forecast} {k : Shape} {n : ℕ} (s : Stands slo
           window = insert-always-finds S (lawful-stands s) y ss (good-stands s).proper (omega (arith, z)) (not-member y (keys ss) fresh) few at_high
 
           taken : chosen S (home y ss) (put_in y ss) ≡ some window.0
-          taken = ((climb-is S (home y ss) (put_in y ss)).0 window.0).1 window.2
+          taken = ((climb_is S (home y ss) (put_in y ss)).0 window.0).1 window.2
 
           level-is : r.level ≡ window.0
           level-is = known.level ∙ ap (λ (o : Option ℕ). Option.get_or o 0) taken

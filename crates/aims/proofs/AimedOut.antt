@@ -23,7 +23,7 @@ use Rattle.rules.specs.declared.Request.TheVariants.{Delete}
 use Rattle.rules.specs.Shares.{Shares}
 use Rattle.rules.specs.Placing.{Room, cut_from, chosen, delete_level}
 use Rattle.rules.specs.Calls.{room_of}
-use Rattle.demands.proofs.Sharing.Climb.{climb-is}
+use Rattle.demands.proofs.Sharing.Climb.{climb_is}
 use Rattle.demands.proofs.Sweeping.SweptWindow.{length-cut-in}
 use Rattle.demands.proofs.Requests.OutcomeCases.{outcome-delete-zero, outcome-delete-absent, delete-stays, delete-swept}
 use Rattle.shares.specs.declared.Shape.{Shape}
@@ -140,7 +140,7 @@ module _ {slots : List ℕ} {F : Forecast} {k : Shape} {n : ℕ} (s : Stands slo
         unfolding delete_level
         out-unswept e =
             rw (lt-ltb (length (cut y (get_or ss (segment_of ss y) []))) (S.low 0) under)
-            (is_none (chosen S (segment_of ss y) (cut_from y ss)) (λ l c. (((climb-is S (segment_of ss y) (cut_from y ss)).0 l).0 c).from) (sym known.level ∙ e))
+            (is_none (chosen S (segment_of ss y) (cut_from y ss)) (λ l c. (((climb_is S (segment_of ss y) (cut_from y ss)).0 l).0 c).from) (sym known.level ∙ e))
 
         -- a window: its keys
         module _ (level : 1 ≤ r.level) where

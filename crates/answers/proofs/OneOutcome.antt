@@ -17,7 +17,7 @@ use Rattle.answers.proofs.Papers.{make-told, check-told, lookup-told, scan-told,
 pub make-one : (profile : ℕ) (L : Lent) (r r' : MakeReply) (left left' : Lent) → MakeAdmits profile L r left → MakeAdmits profile L r' left' → (r ≡ r') × (left ≡ left')
 make-one profile L r r' left left' a b = (
   λ i. record { forecast = (a.forecast ∙ sym b.forecast) i; answer = make-told r.answer r'.answer (a.answer ∙ sym b.answer) i },
-  a.lent-left ∙ sym b.lent-left,
+  a.lent_left ∙ sym b.lent_left,
 )
 
 -- check: the answer
@@ -35,7 +35,7 @@ scan-one profile L a out cards r r' left left' left-cards left-cards' p q = (
   scan-told r r'
       (λ i. record { number = (p.number ∙ sym q.number) i; written = (p.written ∙ sym q.written) i; more = (p.more ∙ sym q.more) i }),
   p.output ∙ sym q.output,
-  p.cards-output ∙ sym q.cards-output,
+  p.cards_output ∙ sym q.cards_output,
 )
 
 -- insert: the reply and what is left of what was lent
@@ -43,7 +43,7 @@ pub insert-one : (profile : ℕ) (L : Lent) (F : Forecast) (y v : ℕ) (r r' : I
     → (r ≡ r') × (left ≡ left')
 insert-one profile L F y v r r' left left' a b = (
   λ i. record { forecast = (a.forecast ∙ sym b.forecast) i; answer = insert-told r.answer r'.answer (a.answer ∙ sym b.answer) i },
-  a.lent-left ∙ sym b.lent-left,
+  a.lent_left ∙ sym b.lent_left,
 )
 
 -- delete: the reply and what is left of what was lent
@@ -51,5 +51,5 @@ pub delete-one : (profile : ℕ) (L : Lent) (F : Forecast) (y : ℕ) (r r' : Del
     → (r ≡ r') × (left ≡ left')
 delete-one profile L F y r r' left left' a b = (
   λ i. record { forecast = (a.forecast ∙ sym b.forecast) i; answer = delete-told r.answer r'.answer (a.answer ∙ sym b.answer) i },
-  a.lent-left ∙ sym b.lent-left,
+  a.lent_left ∙ sym b.lent_left,
 )

@@ -20,7 +20,7 @@ use Rattle.rules.specs.Checks.{check_read}
 use Rattle.rules.specs.Looking.{not_found, looked_up, Scanned}
 use Rattle.rules.specs.Calls.{not_made, make}
 use Rattle.demands.proofs.Refusals.Told.{refusal-some}
-use Rattle.demands.proofs.Refusals.CheckCases.{scan-refused}
+use Rattle.demands.proofs.Refusals.CheckCases.{scan_refused}
 use Rattle.answers.specs.declared.ScanAnswer.{ScanAnswer}
 use Rattle.answers.specs.Admits.{ScanAdmits}
 
@@ -33,9 +33,9 @@ module _ (profile : ℕ) (L : Lent) where
   unfolding make
   make-unknown k = rw k
 
-  pub make-refused : is_profile profile ≡ true → h ≡ 0 → make profile L ≡ not_made L 1
+  pub make_refused : is_profile profile ≡ true → h ≡ 0 → make profile L ≡ not_made L 1
   unfolding make
-  make-refused k e = rw (k, eq-eqb h 0 e)
+  make_refused k e = rw (k, eq-eqb h 0 e)
 
   pub make-wrong-cards : is_profile profile ≡ true → h ≢ 0 → length L.cards ≢ length L.slots → make profile L ≡ not_made L 12
   unfolding make
@@ -69,11 +69,11 @@ module _ (y : ℕ) (c : ℕ → ℕ) (ss : Segments) where
 pub refused-admits : (profile : ℕ) (L : Lent) (a : ℕ) (out cards : List ℕ) (x : Refusal) → check_read profile L ≡ refusal_number x
     → ScanAdmits profile L a out cards (ScanAnswer.Refused x) out cards
 refused-admits profile L a out cards x e =
-    let p = scan-refused profile L a out cards (omega (arith, refusal-some x)) in
+    let p = scan_refused profile L a out cards (omega (arith, refusal-some x)) in
     record {
       number = sym e ∙ sym (ap (λ (s : Scanned). s.number) p);
       written = sym (ap (λ (s : Scanned). s.written) p);
       more = sym (ap (λ (s : Scanned). s.more) p);
       output = sym (ap (λ (s : Scanned). s.output) p);
-      cards-output = sym (ap (λ (s : Scanned). s.cards) p);
+      cards_output = sym (ap (λ (s : Scanned). s.cards) p);
     }

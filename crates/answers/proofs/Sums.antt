@@ -34,8 +34,8 @@ use Rattle.answers.specs.declared.DeleteAnswer.{DeleteAnswer}
 use Rattle.answers.specs.declared.DeleteReply.{DeleteReply}
 use Rattle.answers.specs.Answers.{scan_paper}
 use Rattle.answers.specs.Admits.{MakeAdmits, CheckAdmits, LookupAdmits, ScanAdmits, InsertAdmits, DeleteAdmits}
-use Rattle.demands.proofs.Refusals.CheckCases.{wrong-length, read_first, check-first, lookup-refused, scan-passed}
-use Rattle.answers.proofs.Replies.{make-refused, refused-admits}
+use Rattle.demands.proofs.Refusals.CheckCases.{wrong-length, read_first, check-first, lookup_refused, scan-passed}
+use Rattle.answers.proofs.Replies.{make_refused, refused-admits}
 use Rattle.answers.proofs.Papers.{make-told, check-told, lookup-told, scan-told, insert-told, delete-told}
 use Rattle.answers.proofs.OneOutcome.{scan-one}
 
@@ -65,14 +65,14 @@ module _ (profile : ℕ) (known : is_profile profile ≡ true) (L : Lent) (m : M
 
   pub make-wrong : (r : MakeReply) (left : Lent) → MakeAdmits profile L r left → (r.answer ≡ MakeAnswer.Refused WrongLength) × (r.forecast ≡ forecast_of []) × (left ≡ L)
   make-wrong r left a =
-      let e = make-refused profile L known no-height in
-      (make-told r.answer (MakeAnswer.Refused WrongLength) (a.answer ∙ ap (λ (d : Made). d.number) e), a.forecast ∙ ap (λ (d : Made). d.forecast) e, a.lent-left ∙ ap (λ (d : Made). d.lent) e)
+      let e = make_refused profile L known no-height in
+      (make-told r.answer (MakeAnswer.Refused WrongLength) (a.answer ∙ ap (λ (d : Made). d.number) e), a.forecast ∙ ap (λ (d : Made). d.forecast) e, a.lent_left ∙ ap (λ (d : Made). d.lent) e)
 
   pub check-wrong : (F : Forecast) (r : CheckAnswer) → CheckAdmits profile L F r → r ≡ CheckAnswer.Refused WrongLength
   check-wrong F r a = check-told r (CheckAnswer.Refused WrongLength) (a.answer ∙ check-one F)
 
   pub lookup-wrong : (y : ℕ) (r : LookupAnswer) → LookupAdmits profile L y r → r ≡ LookupAnswer.Refused WrongLength
-  lookup-wrong y r a = lookup-told r (LookupAnswer.Refused WrongLength) (a.answer ∙ lookup-refused profile L y (omega (arith, read_one)) ∙ ap not_found read_one)
+  lookup-wrong y r a = lookup-told r (LookupAnswer.Refused WrongLength) (a.answer ∙ lookup_refused profile L y (omega (arith, read_one)) ∙ ap not_found read_one)
 
   pub scan-wrong : (a : ℕ) (out cards : List ℕ) (r : ScanAnswer) (left left-cards : List ℕ) → ScanAdmits profile L a out cards r left left-cards
       → (r ≡ ScanAnswer.Refused WrongLength) × (left ≡ out) × (left-cards ≡ cards)
@@ -82,12 +82,12 @@ module _ (profile : ℕ) (known : is_profile profile ≡ true) (L : Lent) (m : M
   pub insert-wrong : (F : Forecast) (y v : ℕ) (r : InsertReply) (left : Lent) → InsertAdmits profile L F y v r left → (r.answer ≡ InsertAnswer.Refused WrongLength) × (r.forecast ≡ F) × (left ≡ L)
   insert-wrong F y v r left a =
       let e = request-one (Insert y) v F in
-      (insert-told r.answer (InsertAnswer.Refused WrongLength) (a.answer ∙ ap (λ (d : Called). d.answer) e), a.forecast ∙ ap (λ (d : Called). d.forecast) e, a.lent-left ∙ ap (λ (d : Called). d.lent) e)
+      (insert-told r.answer (InsertAnswer.Refused WrongLength) (a.answer ∙ ap (λ (d : Called). d.answer) e), a.forecast ∙ ap (λ (d : Called). d.forecast) e, a.lent_left ∙ ap (λ (d : Called). d.lent) e)
 
   pub delete-wrong : (F : Forecast) (y : ℕ) (r : DeleteReply) (left : Lent) → DeleteAdmits profile L F y r left → (r.answer ≡ DeleteAnswer.Refused WrongLength) × (r.forecast ≡ F) × (left ≡ L)
   delete-wrong F y r left a =
       let e = request-one (Delete y) 0 F in
-      (delete-told r.answer (DeleteAnswer.Refused WrongLength) (a.answer ∙ ap (λ (d : Called). d.answer) e), a.forecast ∙ ap (λ (d : Called). d.forecast) e, a.lent-left ∙ ap (λ (d : Called). d.lent) e)
+      (delete-told r.answer (DeleteAnswer.Refused WrongLength) (a.answer ∙ ap (λ (d : Called). d.answer) e), a.forecast ∙ ap (λ (d : Called). d.forecast) e, a.lent_left ∙ ap (λ (d : Called). d.lent) e)
 
 -- a live key above a exists
 abbrev Exceeds : List ℕ → ℕ → Type 0

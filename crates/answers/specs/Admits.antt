@@ -16,7 +16,7 @@ use Rattle.answers.specs.Answers.{make_number, check_number, lookup_paper, scan_
 pub record MakeAdmits (profile : ℕ) (L : Lent) (r : MakeReply) (left : Lent) : Type 0 where
   pub answer : make_number r.answer ≡ (rules.make profile L).number
   pub forecast : r.forecast ≡ (rules.make profile L).forecast
-  pub lent-left : left ≡ (rules.make profile L).lent
+  pub lent_left : left ≡ (rules.make profile L).lent
 
 pub record CheckAdmits (profile : ℕ) (L : Lent) (F : Forecast) (r : CheckAnswer) : Type 0 where
   pub answer : check_number r ≡ check profile L F
@@ -30,15 +30,15 @@ pub record ScanAdmits (profile : ℕ) (L : Lent) (a : ℕ) (out cards : List ℕ
   pub written : (scan_paper r).written ≡ (rules.scan profile L a out cards).written
   pub more : (scan_paper r).more ≡ (rules.scan profile L a out cards).more
   pub output : left ≡ (rules.scan profile L a out cards).output
-  pub cards-output : left-cards ≡ (rules.scan profile L a out cards).cards
+  pub cards_output : left-cards ≡ (rules.scan profile L a out cards).cards
 
 -- insert: the key, and the card that comes with it
 pub record InsertAdmits (profile : ℕ) (L : Lent) (F : Forecast) (y v : ℕ) (r : InsertReply) (left : Lent) : Type 0 where
   pub answer : insert_paper r.answer ≡ (rules.insert profile L F y v).answer
   pub forecast : r.forecast ≡ (rules.insert profile L F y v).forecast
-  pub lent-left : left ≡ (rules.insert profile L F y v).lent
+  pub lent_left : left ≡ (rules.insert profile L F y v).lent
 
 pub record DeleteAdmits (profile : ℕ) (L : Lent) (F : Forecast) (y : ℕ) (r : DeleteReply) (left : Lent) : Type 0 where
   pub answer : delete_paper r.answer ≡ (rules.delete profile L F y).answer
   pub forecast : r.forecast ≡ (rules.delete profile L F y).forecast
-  pub lent-left : left ≡ (rules.delete profile L F y).lent
+  pub lent_left : left ≡ (rules.delete profile L F y).lent

@@ -44,7 +44,7 @@ pub record Answered (p : Profile) (h : ℕ) (asks : List set.Ask) (ts : List set
   pub told : ts ≡ set.all_told (most p * 2 ^ h) (fewest p * 2 ^ h) asks set.empty
   pub holds : Holds (set.after_all (most p * 2 ^ h) asks set.empty) H.lent
   pub moves : ms ≡ all_ruled_moves (shares p h) asks (empty_room h)
-  pub is-room : IsRoom (number_of p) (shares p h) (ruled_all (shares p h) asks (empty_room h)) (ruled_all_cards (shares p h) asks (empty_room h) (λ k. 0)) H
+  pub is_room : IsRoom (number_of p) (shares p h) (ruled_all (shares p h) asks (empty_room h)) (ruled_all_cards (shares p h) asks (empty_room h) (λ k. 0)) H
 
 -- Any chain after any outcome of make, in either profile, on an array of a permitted length with cards and a table of its size.
 abbrev pub Chained : Type 0

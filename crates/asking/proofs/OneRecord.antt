@@ -36,7 +36,7 @@ use Rattle.demands.proofs.Requests.Checked.{checked}
 use Rattle.demands.proofs.Requests.MoveBound.{moves-bound}
 use Rattle.demands.proofs.Requests.Tabled.{room-passes}
 use Rattle.demands.proofs.Requests.SingleCalls.{lent_outcome, request-unchecked}
-use Rattle.demands.proofs.Demand2.Ruled.{request-ruled}
+use Rattle.demands.proofs.Demand2.Ruled.{request_ruled}
 use Rattle.records.specs.Asked.{asked, size_for, card_for}
 use Rattle.records.proofs.Single.{SingleRun, single-run}
 use Rattle.steps.specs.declared.Worked.{Worked}
@@ -103,7 +103,7 @@ module _ (profile : ℕ) (b : Bool) (y v : ℕ) (L : Lent) (F : Forecast) (bytes
       record {
         answer = ◌∙◌ {A = Answer} (λ i. record { number = w.last i; moves = (w.tally i).moves; sparse = p i }) (sym (ap (λ (d : Called). d.answer) u));
         forecast = w.forecast ∙ sym (ap (λ (d : Called). d.forecast) u);
-        lent-left = w.lent-left ∙ sym (ap (λ (d : Called). d.lent) u);
+        lent_left = w.lent_left ∙ sym (ap (λ (d : Called). d.lent) u);
       }
 
   -- WHAT IT PASSES: a run of one record, with any allowance from 4096 on
@@ -139,19 +139,19 @@ module _ (profile : ℕ) (b : Bool) (y v : ℕ) (L : Lent) (F : Forecast) (bytes
       c = request profile (asked b y) (card_for b v) L F
 
       a : AsRuled S (cards_after o (asked b y) (card_for b v) (cards_of L)) c o
-      a = request-ruled profile (asked b y) (card_for b v) L F h e
+      a = request_ruled profile (asked b y) (card_for b v) L F h e
 
       slots : rest.slots ≡ c.lent.slots
-      slots = w.slots-left ∙ ap (λ (R : Room). render 0 R.segments) single.room ∙ sym a.slots
+      slots = w.slots_left ∙ ap (λ (R : Room). render 0 R.segments) single.room ∙ sym a.slots
 
       cards : rest.cards ≡ c.lent.cards
       cards =
-          w.cards-left
-          ∙ ap₂ {C = List ℕ} cards_beside single.cards (w.slots-left ∙ ap (λ (R : Room). render 0 R.segments) single.room)
+          w.cards_left
+          ∙ ap₂ {C = List ℕ} cards_beside single.cards (w.slots_left ∙ ap (λ (R : Room). render 0 R.segments) single.room)
           ∙ sym a.cards
 
       table : rest.table ≡ c.lent.table
-      table = w.table-left ∙ ap (λ (R : Room). table_of (height_of (length L.slots)) R.segments) single.room ∙ sym a.table
+      table = w.table_left ∙ ap (λ (R : Room). table_of (height_of (length L.slots)) R.segments) single.room ∙ sym a.table
 
       requested-done : Requested profile (asked b y) v L F (reply_of r s) rest
       requested-done =
@@ -160,7 +160,7 @@ module _ (profile : ℕ) (b : Bool) (y v : ℕ) (L : Lent) (F : Forecast) (bytes
             answer = ◌∙◌ {A = Answer} (λ i. record { number = number i; moves = (ap (λ (t : Tally). t.moves) w.tally ∙ single.moves) i; sparse = sparse i })
                 (sym a.answer ∙ ap (λ (d : Called). d.answer) same);
             forecast = w.forecast ∙ ap (λ (R : Room). forecast_of R.cells) single.room ∙ sym a.forecast ∙ ap (λ (d : Called). d.forecast) same;
-            lent-left = ◌∙◌ {A = Lent} (λ i. record { slots = slots i; cards = cards i; table = table i }) (ap (λ (d : Called). d.lent) same);
+            lent_left = ◌∙◌ {A = Lent} (λ i. record { slots = slots i; cards = cards i; table = table i }) (ap (λ (d : Called). d.lent) same);
           }
 
     -- EITHER

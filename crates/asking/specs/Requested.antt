@@ -26,4 +26,4 @@ answer_of r = record { number = verdict_number r.verdict; moves = r.moves; spars
 pub record Requested (profile : ℕ) (q : Request) (v : ℕ) (L : Lent) (F : Forecast) (r : Reply) (left : Lent) : Type 0 where
   pub answer : answer_of r ≡ (rules.request profile q v L F).answer
   pub forecast : r.forecast ≡ (rules.request profile q v L F).forecast
-  pub lent-left : left ≡ (rules.request profile q v L F).lent
+  pub lent_left : left ≡ (rules.request profile q v L F).lent

@@ -11,7 +11,7 @@ use lib.Seq.{get_or-set_same, get_or-set_other, get_or-take, get_or-drop, get_or
 use Rattle.std.proofs.Common.{if◌then◌else◌}
 use Rattle.lists.specs.Lists.{without}
 use Rattle.lists.proofs.Tests.{neqb→ne}
-use Rattle.lists.proofs.Maps.{get_d_map}
+use Rattle.std.proofs.lemmas.List.{get_or-map}
 use Rattle.lists.proofs.Fill.{length_without}
 use Rattle.cells.specs.declared.Cell.{Cell}
 use Rattle.cells.specs.Cells.{zero_cell}
@@ -136,6 +136,6 @@ from-aimed place cs = record {
   fewer = omega (arith, length-map cs (aimed place));
   origin = λ k. k;
   inside = λ k h. omega (arith, length-map cs (aimed place));
-  same = λ k h. marker-is _ _ (get_d_map (aimed place) cs k zero_cell zero_cell (omega (arith, length-map cs (aimed place))));
+  same = λ k h. marker-is _ _ (get_or-map (aimed place) cs k zero_cell zero_cell (omega (arith, length-map cs (aimed place))));
   one = λ k l e. e;
 }

@@ -21,12 +21,12 @@ length-zip (x ∷ xs) [] ns p q = absurd (omega arith)
 length-zip (x ∷ xs) (s ∷ ss) [] p q = absurd (omega arith)
 length-zip (x ∷ xs) (s ∷ ss) (n ∷ ns) p q = ap suc (length-zip xs ss ns (omega arith) (omega arith))
 
-pub get_d_zip : (xs ss ns : List ℕ) → length ss ≡ length xs → length ns ≡ length xs → (i : ℕ) → i < length xs → get_or (zip3 xs ss ns) i zero_cell ≡ cell (get_or xs i 0) (get_or ss i 0) (get_or ns i 0)
-get_d_zip [] ss ns p q i h = absurd (omega arith)
-get_d_zip (x ∷ xs) [] ns p q i h = absurd (omega arith)
-get_d_zip (x ∷ xs) (s ∷ ss) [] p q i h = absurd (omega arith)
-get_d_zip (x ∷ xs) (s ∷ ss) (n ∷ ns) p q zero h = refl
-get_d_zip (x ∷ xs) (s ∷ ss) (n ∷ ns) p q (suc i) h = get_d_zip xs ss ns (omega arith) (omega arith) i (omega arith)
+pub get_or-zip : (xs ss ns : List ℕ) → length ss ≡ length xs → length ns ≡ length xs → (i : ℕ) → i < length xs → get_or (zip3 xs ss ns) i zero_cell ≡ cell (get_or xs i 0) (get_or ss i 0) (get_or ns i 0)
+get_or-zip [] ss ns p q i h = absurd (omega arith)
+get_or-zip (x ∷ xs) [] ns p q i h = absurd (omega arith)
+get_or-zip (x ∷ xs) (s ∷ ss) [] p q i h = absurd (omega arith)
+get_or-zip (x ∷ xs) (s ∷ ss) (n ∷ ns) p q zero h = refl
+get_or-zip (x ∷ xs) (s ∷ ss) (n ∷ ns) p q (suc i) h = get_or-zip xs ss ns (omega arith) (omega arith) i (omega arith)
 
 pub markers-zip : (xs ss ns : List ℕ) → length ss ≡ length xs → length ns ≡ length xs → map (λ c. c.marker) (zip3 xs ss ns) ≡ xs
 markers-zip [] ss ns p q = refl

@@ -13,53 +13,53 @@ pub record Demands : Type 0 where
   -- DEMAND 1. "Every call takes any arrays, forecast, keys and request bytes and comes to an end." Each call of Calls is a function of whatever
   -- is lent, and no promise of a public call has a `requires`.
   -- "It checks what it is lent." Each number is given exactly when its row applies and none before it.
-  pub make-tells : MakeTells
-  pub check-tells : CheckTells
-  pub check-passes : CheckPasses
-  pub lookup-tells : LookupTells
-  pub scan-tells : ScanTells
-  pub insert-tells : InsertTells
-  pub delete-tells : DeleteTells
-  pub run-tells : RunTells
+  pub make_tells : MakeTells
+  pub check_tells : CheckTells
+  pub check_passes : CheckPasses
+  pub lookup_tells : LookupTells
+  pub scan_tells : ScanTells
+  pub insert_tells : InsertTells
+  pub delete_tells : DeleteTells
+  pub run_tells : RunTells
   -- "A refused request gives its number and zero moves and changes neither list nor forecast;
-  pub request-refused : RequestRefused
-  pub lookup-refused : LookupRefused
-  pub scan-refused : ScanRefused
-  pub make-refused : MakeRefused
-  pub run-refused : RunRefused
+  pub request_refused : RequestRefused
+  pub lookup_refused : LookupRefused
+  pub scan_refused : ScanRefused
+  pub make_refused : MakeRefused
+  pub run_refused : RunRefused
   -- a run that stops keeps exactly the requests worked before the stop."
-  pub run-stops : RunStops
-  pub run-is-singly : RunIsSingly
-  pub run-in-two : RunInTwo
+  pub run_stops : RunStops
+  pub run_is_singly : RunIsSingly
+  pub run_in_two : RunInTwo
   -- What passes the check passes it again after every call.
-  pub request-keeps : RequestKeeps
-  pub run-keeps : RunKeeps
+  pub request_keeps : RequestKeeps
+  pub run_keeps : RunKeeps
   -- DEMAND 2. "Any sequence of inserts, deletes, lookups and scans on a list made empty is answered as a plain sorted set of at most half as
   -- many keys as slots would answer.
-  pub is-set : IsSet
-  pub sequence-answered : SequenceAnswered
+  pub is_set : IsSet
+  pub sequence_answered : SequenceAnswered
   -- The same with a profile for each ask.
-  pub mixed-answered : MixedAnswered
+  pub mixed_answered : MixedAnswered
   -- After each request the slots, the forecast and the reported moves are those of the paper's rules
-  pub request-ruled : RequestRuled
-  pub sequence-ruled : SequenceRuled
+  pub request_ruled : RequestRuled
+  pub sequence_ruled : SequenceRuled
   -- with our rounding and ties." What the rules choose, without the way they find it.
   pub table : Table
   pub lawful : TableLawful
-  pub counts-are : CountsAre
-  pub split-is : SplitIs
+  pub counts_are : CountsAre
+  pub split_is : SplitIs
   pub no_zero : NoZero
-  pub climb-is : ClimbIs
-  pub insert-finds : InsertFinds
-  pub cells-aim : CellsAim
+  pub climb_is : ClimbIs
+  pub insert_finds : InsertFinds
+  pub cells_aim : CellsAim
   -- DEMAND 3. "After a sweep, every window strictly inside the swept one holds at least the low and at most the high share of its parent's
   -- level, times its segments, whatever the forecast said." Over any lawful shares, and of the public calls on what they are lent.
   pub inside : Inside
-  pub lent-inside : LentInside
+  pub lent_inside : LentInside
   -- A sweep loses no key and overfills no segment, and is told exactly where a window was chosen.
   pub keys_kept : KeysKept
-  pub sizes-kept : SizesKept
-  pub sweeps-told : SweepsTold
+  pub sizes_kept : SizesKept
+  pub sweeps_told : SweepsTold
   -- "Suppose a request falling in one half of a window sets off a sweep of that window, and the window was swept before. Counting from its
   -- latest earlier sweep, with only inserts and deletes since, that half has taken more inserts than deletes by over the gap between the two
   -- levels' high shares times its segments, or more deletes than inserts by over the gap between the low shares times its segments. The

@@ -11,7 +11,7 @@ use Rattle.lists.specs.Search.{place_by}
 use Rattle.lists.proofs.Maps.{place_map}
 use Rattle.cells.specs.declared.Cell.{Cell}
 use Rattle.cells.specs.Cells.{cell, zero_cell, row, cell_at}
-use Rattle.cells.proofs.Zipped.{length-zip, get_d_zip, markers-zip, segments-zip, counts-zip}
+use Rattle.cells.proofs.Zipped.{length-zip, get_or-zip, markers-zip, segments-zip, counts-zip}
 use Rattle.forecast.specs.declared.Forecast.{Forecast}
 use Rattle.forecast.specs.Cells.{cells, used_cells, forecast_of}
 use Rattle.forecast.specs.Tidy.{Tidy, Became, Roomy, CellOf}
@@ -48,7 +48,7 @@ module _ (F : Forecast) (r : Roomy F) where
 
   pub roomy-at : (i : ℕ) → i < 12 → get_or (cells F) i zero_cell ≡ cell (get_or F.markers i 0) (get_or F.segments i 0) (get_or F.counts i 0)
   unfolding cells
-  roomy-at i h = get_d_zip F.markers F.segments F.counts (r.segments ∙ sym r.markers) (r.counts ∙ sym r.markers) i (omega (arith, r.markers))
+  roomy-at i h = get_or-zip F.markers F.segments F.counts (r.segments ∙ sym r.markers) (r.counts ∙ sym r.markers) i (omega (arith, r.markers))
 
   -- their fields are the rows
   pub roomy-markers : map (λ c. c.marker) (cells F) ≡ F.markers

@@ -20,8 +20,8 @@ use Rattle.rules.specs.Lent.{Lent, lend}
 use Rattle.rules.specs.Calls as rules
 use Rattle.demands.specs.Rows.{Row, Tells, make_rows, read_rows, lookup_rows, insert_rows, delete_rows}
 use Rattle.demands.proofs.Refusals.Numbers as below
-use Rattle.demands.proofs.Refusals.Refused.{request-refused, lookup-refused, scan-refused, make-refused}
-use Rattle.demands.proofs.Running.Runs.{run-refused}
+use Rattle.demands.proofs.Refusals.Refused.{request_refused, lookup_refused, scan_refused, make_refused}
+use Rattle.demands.proofs.Running.Runs.{run_refused}
 use Rattle.demands.proofs.Running.Singly as singly
 use Rattle.words.specs.Words.{cell_words, forecast_in, forecast_words}
 use Rattle.words.specs.Totals.{totals_in, totals_words}
@@ -64,43 +64,43 @@ totals-again (a ∷ b ∷ c ∷ d ∷ e ∷ ws) h = absurd (omega arith)
 pub make-leaves : MakeLeaves
 unfolding make forecast_of padded cell_words cells
 make-leaves profile list cards table forecast =
-    leaves (not_forecast forecast) _ _ _ (small (make_rows profile (lend list cards table)) _ tt (below.make-tells profile (lend list cards table))) λ t n _ _.
-    ap (λ (m : rules.Made). m.lent.slots ∷ m.lent.cards ∷ m.lent.table ∷ forecast_words m.forecast ∷ []) (make-refused profile (lend list cards table) n)
+    leaves (not_forecast forecast) _ _ _ (small (make_rows profile (lend list cards table)) _ tt (below.make_tells profile (lend list cards table))) λ t n _ _.
+    ap (λ (m : rules.Made). m.lent.slots ∷ m.lent.cards ∷ m.lent.table ∷ forecast_words m.forecast ∷ []) (make_refused profile (lend list cards table) n)
 
 pub lookup-leaves : LookupLeaves
 unfolding lookup
 lookup-leaves profile list cards table key reply =
-    leaves (short reply 3) _ _ _ (small (lookup_rows profile (lend list cards table) key) _ tt (below.lookup-tells profile (lend list cards table) key)) λ t n _ _.
-    ap (λ (f : Found). over (one f.present ∷ f.segment ∷ f.card ∷ []) reply ∷ []) (lookup-refused profile (lend list cards table) key n)
+    leaves (short reply 3) _ _ _ (small (lookup_rows profile (lend list cards table) key) _ tt (below.lookup_tells profile (lend list cards table) key)) λ t n _ _.
+    ap (λ (f : Found). over (one f.present ∷ f.segment ∷ f.card ∷ []) reply ∷ []) (lookup_refused profile (lend list cards table) key n)
 
 pub scan-leaves : ScanLeaves
 unfolding scan
 scan-leaves profile list cards table from output output-cards reply =
-    leaves (short reply 2) _ _ _ (small (read_rows profile (lend list cards table)) _ tt (below.scan-tells profile (lend list cards table) from output output-cards)) λ t n _ _.
-    ap (λ (c : Scanned). c.output ∷ c.cards ∷ over (c.written ∷ one c.more ∷ []) reply ∷ []) (scan-refused profile (lend list cards table) from output output-cards n)
+    leaves (short reply 2) _ _ _ (small (read_rows profile (lend list cards table)) _ tt (below.scan_tells profile (lend list cards table) from output output-cards)) λ t n _ _.
+    ap (λ (c : Scanned). c.output ∷ c.cards ∷ over (c.written ∷ one c.more ∷ []) reply ∷ []) (scan_refused profile (lend list cards table) from output output-cards n)
 
 pub insert-leaves : InsertLeaves
 unfolding insert
 insert-leaves profile list cards table forecast key card reply =
     leaves (not_forecast forecast || short reply 1) _ _ _
-    (small (insert_rows profile (lend list cards table) (forecast_in forecast) key) _ tt (below.insert-tells profile (lend list cards table) (forecast_in forecast) key card (roomy forecast))) λ t n _ _.
-    ap (λ (c : rules.Called). left_by c (over (c.answer.moves ∷ []) reply)) (request-refused profile (Insert key) card (lend list cards table) (forecast_in forecast) n)
+    (small (insert_rows profile (lend list cards table) (forecast_in forecast) key) _ tt (below.insert_tells profile (lend list cards table) (forecast_in forecast) key card (roomy forecast))) λ t n _ _.
+    ap (λ (c : rules.Called). left_by c (over (c.answer.moves ∷ []) reply)) (request_refused profile (Insert key) card (lend list cards table) (forecast_in forecast) n)
     ∙ ap (λ (ws : List ℕ). list ∷ cards ∷ table ∷ ws ∷ over (0 ∷ []) reply ∷ []) (words-again forecast (forecast-fits forecast (neither (not_forecast forecast) _ t).0))
 
 pub delete-leaves : DeleteLeaves
 unfolding delete
 delete-leaves profile list cards table forecast key reply =
     leaves (not_forecast forecast || short reply 2) _ _ _
-    (small (delete_rows profile (lend list cards table) (forecast_in forecast) key) _ tt (below.delete-tells profile (lend list cards table) (forecast_in forecast) key (roomy forecast))) λ t n _ _.
+    (small (delete_rows profile (lend list cards table) (forecast_in forecast) key) _ tt (below.delete_tells profile (lend list cards table) (forecast_in forecast) key (roomy forecast))) λ t n _ _.
     ap (λ (c : rules.Called). left_by c (over (c.answer.moves ∷ one c.answer.sparse ∷ []) reply))
-    (request-refused profile (Delete key) 0 (lend list cards table) (forecast_in forecast) n)
+    (request_refused profile (Delete key) 0 (lend list cards table) (forecast_in forecast) n)
     ∙ ap (λ (ws : List ℕ). list ∷ cards ∷ table ∷ ws ∷ over (0 ∷ 0 ∷ []) reply ∷ []) (words-again forecast (forecast-fits forecast (neither (not_forecast forecast) _ t).0))
 
 -- A RUN whose stop is none of 0, 9 and 10 was refused by its check
 unchecked : (profile : ℕ) (L : Lent) (F : Forecast) (requests : List ℕ) (allowance : ℕ) (S : Totals) → (rules.run profile L F requests allowance S).reply.stop ≢ 0
     → (rules.run profile L F requests allowance S).reply.stop ≢ 9 → (rules.run profile L F requests allowance S).reply.stop ≢ 10 → checks.check profile L F ≢ 0
 unchecked profile L F requests allowance S n m k z =
-    elim (singly.run-tells profile L F requests allowance S z).0 [
+    elim (singly.run_tells profile L F requests allowance S z).0 [
       | inl x ↦ m x.1
       | inr x ↦ elim x.1 [ inl y ↦ k y.1 | inr y ↦ n y.1 ]
     ]
@@ -115,5 +115,5 @@ run-leaves profile list cards table forecast requests allowance totals reply =
     let f = forecast-fits forecast (neither (not_forecast forecast) _ t).0 in
     let g = totals-fit totals (neither (not_totals totals) _ (neither (not_forecast forecast) _ t).1).0 in
     ap (λ (w : rules.Worked). w.lent.slots ∷ w.lent.cards ∷ w.lent.table ∷ forecast_words w.forecast ∷ totals_words w.totals ∷ over (reply_words w.reply.tally) reply ∷ [])
-    (run-refused profile (lend list cards table) F requests allowance S (unchecked profile (lend list cards table) F requests allowance S n m k))
+    (run_refused profile (lend list cards table) F requests allowance S (unchecked profile (lend list cards table) F requests allowance S n m k))
     ∙ (λ i. list ∷ cards ∷ table ∷ words-again forecast f i ∷ totals-again totals g i ∷ over (0 ∷ 0 ∷ 0 ∷ 0 ∷ []) reply ∷ [])

@@ -14,7 +14,7 @@ use Rattle.rules.specs.Calls as rules
 use Rattle.demands.specs.Rows.{Row, Tells, make_rows, read_rows, both_rows, lookup_rows, insert_rows, delete_rows, stop_rows, run_rows}
 use Rattle.demands.proofs.Refusals.RowsInOrder.{Decides, tells-if, tells-after}
 use Rattle.demands.proofs.Refusals.Numbers as below
-use Rattle.demands.proofs.Running.Runs.{run-refused}
+use Rattle.demands.proofs.Running.Runs.{run_refused}
 use Rattle.demands.proofs.Running.Singly as singly
 use Rattle.words.specs.Words.{forecast_in}
 use Rattle.words.specs.Totals.{totals_in}
@@ -44,43 +44,43 @@ sized-tells : (wrong : Bool) (W : Type 0) (rs : List Row) (lent : List (List ℕ
     → Tells (row100 W ∷ rs) (sized wrong lent o).number
 sized-tells wrong W rs lent o d t = tells-if (λ (x : Given). x.number) wrong (row100 W) rs (record { number = 100; left = lent }) o refl d (λ _. t)
 
-pub make-tells : MakeTells
+pub make_tells : MakeTells
 unfolding make
-make-tells profile list cards table forecast =
+make_tells profile list cards table forecast =
     sized-tells (not_forecast forecast) (NotForecast forecast) (make_rows profile (lend list cards table)) _ _ (unequal (length forecast) 37)
-    (below.make-tells profile (lend list cards table))
+    (below.make_tells profile (lend list cards table))
 
-pub check-tells : CheckTells
+pub check_tells : CheckTells
 unfolding check
-check-tells profile list cards table forecast =
+check_tells profile list cards table forecast =
     sized-tells (not_forecast forecast) (NotForecast forecast) (both_rows profile (lend list cards table) (forecast_in forecast)) _ _ (unequal (length forecast) 37)
-    (below.check-tells profile (lend list cards table) (forecast_in forecast) (roomy forecast))
+    (below.check_tells profile (lend list cards table) (forecast_in forecast) (roomy forecast))
 
-pub lookup-tells : LookupTells
+pub lookup_tells : LookupTells
 unfolding lookup
-lookup-tells profile list cards table key reply =
-    sized-tells (short reply 3) (length reply < 3) (lookup_rows profile (lend list cards table) key) _ _ (shorter (length reply) 3) (below.lookup-tells profile (lend list cards table) key)
+lookup_tells profile list cards table key reply =
+    sized-tells (short reply 3) (length reply < 3) (lookup_rows profile (lend list cards table) key) _ _ (shorter (length reply) 3) (below.lookup_tells profile (lend list cards table) key)
 
-pub scan-tells : ScanTells
+pub scan_tells : ScanTells
 unfolding scan
-scan-tells profile list cards table from output output-cards reply =
-    sized-tells (short reply 2) (length reply < 2) (read_rows profile (lend list cards table)) _ _ (shorter (length reply) 2) (below.scan-tells profile (lend list cards table) from output output-cards)
+scan_tells profile list cards table from output output-cards reply =
+    sized-tells (short reply 2) (length reply < 2) (read_rows profile (lend list cards table)) _ _ (shorter (length reply) 2) (below.scan_tells profile (lend list cards table) from output output-cards)
 
 -- a forecast and a reply of n words
 both : (forecast reply : List ℕ) (n : ℕ) → Decides (not_forecast forecast || short reply n) (row100 (NotForecast forecast ⊎ (length reply < n)))
 both forecast reply n = either-size (not_forecast forecast) (short reply n) _ _ (unequal (length forecast) 37) (shorter (length reply) n)
 
-pub insert-tells : InsertTells
+pub insert_tells : InsertTells
 unfolding insert
-insert-tells profile list cards table forecast key card reply =
+insert_tells profile list cards table forecast key card reply =
     sized-tells (not_forecast forecast || short reply 1) (NotForecast forecast ⊎ (length reply < 1)) (insert_rows profile (lend list cards table) (forecast_in forecast) key) _ _
-    (both forecast reply 1) (below.insert-tells profile (lend list cards table) (forecast_in forecast) key card (roomy forecast))
+    (both forecast reply 1) (below.insert_tells profile (lend list cards table) (forecast_in forecast) key card (roomy forecast))
 
-pub delete-tells : DeleteTells
+pub delete_tells : DeleteTells
 unfolding delete
-delete-tells profile list cards table forecast key reply =
+delete_tells profile list cards table forecast key reply =
     sized-tells (not_forecast forecast || short reply 2) (NotForecast forecast ⊎ (length reply < 2)) (delete_rows profile (lend list cards table) (forecast_in forecast) key) _ _
-    (both forecast reply 2) (below.delete-tells profile (lend list cards table) (forecast_in forecast) key (roomy forecast))
+    (both forecast reply 2) (below.delete_tells profile (lend list cards table) (forecast_in forecast) key (roomy forecast))
 
 -- A RUN
 module _ (profile : ℕ) (L : Lent) (forecast requests : List ℕ) (allowance : ℕ) (totals reply : List ℕ) where
@@ -93,18 +93,18 @@ module _ (profile : ℕ) (L : Lent) (forecast requests : List ℕ) (allowance : 
   pub below-tells : Tells all_rows W.reply.stop
   below-tells =
       tells-after (both_rows profile L (forecast_in forecast)) (stop_rows profile requests allowance W) (checks.check profile L (forecast_in forecast)) W.reply.stop (omega arith)
-      (below.check-tells profile L (forecast_in forecast) (roomy forecast))
-      (λ n. ap (λ (w : rules.Worked). w.reply.stop) (run-refused profile L (forecast_in forecast) requests allowance (totals_in totals) n)) λ z.
-      (singly.run-tells profile L (forecast_in forecast) requests allowance (totals_in totals) z).0
+      (below.check_tells profile L (forecast_in forecast) (roomy forecast))
+      (λ n. ap (λ (w : rules.Worked). w.reply.stop) (run_refused profile L (forecast_in forecast) requests allowance (totals_in totals) n)) λ z.
+      (singly.run_tells profile L (forecast_in forecast) requests allowance (totals_in totals) z).0
 
   sizes : Decides (not_forecast forecast || (not_totals totals || short reply 4)) (row100 (NotForecast forecast ⊎ ((length totals ≢ 4) ⊎ (length reply < 4))))
   sizes =
       either-size (not_forecast forecast) (not_totals totals || short reply 4) _ _ (unequal (length forecast) 37)
       (either-size (not_totals totals) (short reply 4) _ _ (unequal (length totals) 4) (shorter (length reply) 4))
 
-pub run-tells : RunTells
+pub run_tells : RunTells
 unfolding run
-run-tells profile list cards table forecast requests allowance totals reply =
+run_tells profile list cards table forecast requests allowance totals reply =
     sized-tells (not_forecast forecast || (not_totals totals || short reply 4)) (NotForecast forecast ⊎ ((length totals ≢ 4) ⊎ (length reply < 4)))
     (all_rows profile (lend list cards table) forecast requests allowance totals reply) _ _ (sizes profile (lend list cards table) forecast requests allowance totals reply)
     (below-tells profile (lend list cards table) forecast requests allowance totals reply)

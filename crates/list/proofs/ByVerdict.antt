@@ -15,7 +15,7 @@ use Rattle.rules.specs.Placing.{Answer, refused}
 use Rattle.rules.specs.Lent.{Lent}
 use Rattle.rules.specs.Checks.{shares_of, check}
 use Rattle.rules.specs.Calls.{room_of, Called, request}
-use Rattle.demands.proofs.Refusals.Refused.{request-refused}
+use Rattle.demands.proofs.Refusals.Refused.{request_refused}
 use Rattle.demands.proofs.Refusals.Told.{refusal-some}
 use Rattle.demands.proofs.Requests.SingleCalls.{lent_outcome}
 use Rattle.asking.specs.declared.Reply.{Reply}
@@ -34,7 +34,7 @@ module _ (profile : ℕ) (q : Request) (card : ℕ) (L : Lent) (F : Forecast) (r
   pub answer-refused : (x : Refusal) → r.verdict ≡ Refused x → refused (refusal_number x) ≡ (request profile q card L F).answer
   answer-refused x v =
       let n : (request profile q card L F).answer.number ≡ refusal_number x = sym (ap (λ (d : Answer). d.number) a) ∙ ap verdict_number v in
-      ap refused (sym n) ∙ sym (ap (λ (d : Called). d.answer) (request-refused profile q card L F (omega (arith, refusal-some x))))
+      ap refused (sym n) ∙ sym (ap (λ (d : Called). d.answer) (request_refused profile q card L F (omega (arith, refusal-some x))))
 
   -- where it accepts, the moves, and whether the list is sparse
   pub answer-done : (b : Bool) → r.verdict ≡ Accepted → r.sparse ≡ b → record { number = 0; moves = r.moves; sparse = b } ≡ (request profile q card L F).answer

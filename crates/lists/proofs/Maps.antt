@@ -2,9 +2,9 @@
 use mathlib.Core.Path.{◌≡◌, refl, ap, ap₂, ◌∙◌}
 use mathlib.Core.Bool.{Bool}
 use mathlib.Core.List.{List, [], ◌∷◌, ◌++◌, map, map-append}
-use Prim.Native.Nat.{ℕ, zero, suc, ◌+◌, ◌≤◌, ◌<◌}
+use Prim.Native.Nat.{ℕ, zero, suc, ◌+◌, ◌≤◌}
 use native.Mathlib.Omega.{arith}
-use lib.ListN.{length, take, drop, get_or, set, length-append, length-drop}
+use lib.ListN.{length, take, drop, set, length-append, length-drop}
 use lib.Seq.{length-take-le}
 use Rattle.std.proofs.Common.{if◌then◌else◌}
 use Rattle.lists.specs.Lists.{splice}
@@ -30,12 +30,6 @@ module _ {ℓ κ} {A : Type ℓ} {B : Type κ} where
   map-splice f i n new xs =
       map-append f (take i xs) (new ++ drop (i + n) xs)
       ∙ ap₂ {C = List B} ◌++◌ (map-take f i xs) (map-append f new (drop (i + n) xs) ∙ ap {B = List B} (λ r. map f new ++ r) (map-drop f (i + n) xs))
-
-  -- an element of a mapped list, whatever stands for none
-  pub get_d_map : (f : A → B) (xs : List A) (i : ℕ) (d : A) (e : B) → i < length xs → get_or (map f xs) i e ≡ f (get_or xs i d)
-  get_d_map f [] i d e h = absurd (omega arith)
-  get_d_map f (x ∷ xs) zero d e h = refl
-  get_d_map f (x ∷ xs) (suc i) d e h = get_d_map f xs i d e (omega arith)
 
 -- the place of the first that passes
 pub place_map : {A B : Type 0} (p : B → Bool) (f : A → B) (xs : List A) → place_by p (map f xs) ≡ place_by (λ x. p (f x)) xs

@@ -126,7 +126,7 @@ module _ (profile : ℕ) (L : Lent) (e : check_read profile L ≡ 0) (a : ℕ) (
             t.more ∙ w.more ∙ ap₂ {C = Bool} (λ (f g : List ℕ). ltb (length f) (length g)) page-is (sym q ∙ above-beyond a (keys ss))
             ∙ sym (ap (λ (s : Scanned). s.more) scan-is ∙ scanned-more a (cards_of L) ss out cards rising);
         output = w.output ∙ ap (λ (f : List ℕ). f ++ drop (length f) out) page-is ∙ sym (ap (λ (s : Scanned). s.output) scan-is ∙ scanned-output a (cards_of L) ss out cards);
-        cards-output =
+        cards_output =
             v ∙ ap (λ (f : List ℕ). f ++ drop (length (take room ks)) cards) page-cards ∙ ap (λ (f : List ℕ). map (cards_of L) f ++ drop (length f) cards) page-is
             ∙ sym (ap (λ (s : Scanned). s.cards) scan-is ∙ scanned-cards a (cards_of L) ss out cards);
       }

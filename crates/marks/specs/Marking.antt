@@ -1,5 +1,5 @@
 -- A request in a window of segments: what the marks of the window's keys, once it is done, are found from.
-use Rattle.std.specs.Prelude.{◌≡◌, ℕ, ◌<◌, not, T, ◌≢◌, List, length, take, drop, nat_le}
+use Rattle.std.specs.Prelude.{◌≡◌, ℕ, ◌<◌, not, T, ◌≢◌, List, length, take, drop, leb}
 use Rattle.lists.specs.Lists.{All, insert_at}
 use Rattle.lists.specs.Search.{place_by}
 use Rattle.slots.specs.Segments.{Segments, keys}
@@ -43,4 +43,4 @@ pub record OneMarked (c : Cell) (ks at weights at' weights' : List ℕ) : Type 0
   pub absent : T (not (member c.marker ks)) → (at' ≡ at) × (weights' ≡ weights)
   pub present : T (member c.marker ks)
       → let p : ℕ = length (below c.marker ks) in
-      (at' ≡ insert_at (place_by (nat_le p) at) p at) × (weights' ≡ insert_at (place_by (nat_le p) at) c.count weights)
+      (at' ≡ insert_at (place_by (leb p) at) p at) × (weights' ≡ insert_at (place_by (leb p) at) c.count weights)

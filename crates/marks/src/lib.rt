@@ -1,7 +1,7 @@
 // The marks of a window, found in the list as it stands before a request: the places that the keys that weigh will have, and their weights.
 #![tactic(auto)]
 
-ghost use Rattle.std.specs.Prelude.{◌≡◌, ℕ, ◌+◌, ◌*◌, ◌<◌, ◌≤◌, [], map, length, take, slice_index, slice_index_or};
+ghost use Rattle.std.specs.Prelude.{◌≡◌, ℕ, ◌+◌, ◌*◌, ◌<◌, ◌≤◌, [], map, length, take, get_or};
 ghost use mathlib.Core.List.{Memᴰ as Mem};
 ghost use Rattle.lists.specs.Lists.{insert_at};
 ghost use Rattle.slots.specs.Segments.{Segments};
@@ -45,8 +45,8 @@ pub fn put_in(xs: &mut [usize], n: usize, k: usize, v: usize)
 // Where `marker`, a key of segment `s` of the window, stands among the window's keys once the request is done.
 fn place_of(list: &[u64], counts: &[usize], w: Window, s: usize, marker: u64) -> usize
     requires first_le_s { (w.first ≤ s) × (s < w.first + w.n) × (w.n ≤ 64) }
-    requires n_in_bounds { (64 * (w.first + w.n) ≤ length list.now) × (w.first + w.n ≤ length counts.now) × ((k : ℕ) → k < w.first + w.n → slice_index counts.now k ≤ 64) }
-    ensures { (ss : Segments) → Asked list.now counts.now w ss → Mem marker (slice_index_or ss s []) → result ≡ length (below marker (after w ss)) }
+    requires n_in_bounds { (64 * (w.first + w.n) ≤ length list.now) × (w.first + w.n ≤ length counts.now) × ((k : ℕ) → k < w.first + w.n → get_or counts.now k 0 ≤ 64) }
+    ensures { (ss : Segments) → Asked list.now counts.now w ss → Mem marker (get_or ss s []) → result ≡ length (below marker (after w ss)) }
 {
     let a = 64 * s;
     let e = a + 64;
@@ -74,7 +74,7 @@ fn mark_cell(
     weights: &mut [usize],
 ) -> usize
     requires n_bound { (w.n ≤ 64) × (n < length at.old) × (n < length weights.old) }
-    requires n_in_bounds { (64 * (w.first + w.n) ≤ length list.now) × (w.first + w.n ≤ length counts.now) × ((k : ℕ) → k < w.first + w.n → slice_index counts.now k ≤ 64) }
+    requires n_in_bounds { (64 * (w.first + w.n) ≤ length list.now) × (w.first + w.n ≤ length counts.now) × ((k : ℕ) → k < w.first + w.n → get_or counts.now k 0 ≤ 64) }
     ensures range { result ≤ n + 1 }
     ensures marks { (ss : Segments) → Asked list.now counts.now w ss → Aims w ss cell → OneMarked cell (after w ss) (take n at.old) (take n weights.old) (take result at.new) (take result weights.new) }
 {
@@ -106,7 +106,7 @@ pub fn mark(
     weights: &mut [usize],
 ) -> usize
     requires n_bound { (w.n ≤ 64) × (length at.old ≡ 12) × (length weights.old ≡ 12) }
-    requires n_in_bounds { (64 * (w.first + w.n) ≤ length list.now) × (w.first + w.n ≤ length counts.now) × ((k : ℕ) → k < w.first + w.n → slice_index counts.now k ≤ 64) }
+    requires n_in_bounds { (64 * (w.first + w.n) ≤ length list.now) × (w.first + w.n ≤ length counts.now) × ((k : ℕ) → k < w.first + w.n → get_or counts.now k 0 ≤ 64) }
     requires tidy { Tidy f }
     ensures range { result ≤ 12 }
     ensures marks { (ss : Segments) → Marking list.now counts.now f w ss → Marked (map (weight (used_cells f)) (after w ss)) (take result at.new) (take result weights.new) }

@@ -11,14 +11,14 @@ use Rattle.moves.specs.Moves.{moved}
 
 module _ {A : Type 0} where
   -- LOADS from the ends of a list that is put together from parts
-  get_d_past : (p l : List A) (n k : ℕ) (z : A) → length p ≡ n → n ≤ k → get_or (p ++ drop n l) k z ≡ get_or l k z
-  get_d_past p l n k z e h =
+  get_or-past : (p l : List A) (n k : ℕ) (z : A) → length p ≡ n → n ≤ k → get_or (p ++ drop n l) k z ≡ get_or l k z
+  get_or-past p l n k z e h =
       subst (λ (m : ℕ). m ≤ k → get_or (p ++ drop m l) k z ≡ get_or l k z) e
       (λ h. subst (λ (m : ℕ). get_or (p ++ drop (length p) l) m z ≡ get_or l m z) (add-sub_of_le h)
       (get_or-append-add p (drop (length p) l) (k - length p) z ∙ get_or-drop (length p) l (k - length p) z)) h
 
-  get_d_front : (l q : List A) (n k : ℕ) (z : A) → n ≤ length l → k < n → get_or (take n l ++ q) k z ≡ get_or l k z
-  get_d_front l q n k z h i =
+  get_or-front : (l q : List A) (n k : ℕ) (z : A) → n ≤ length l → k < n → get_or (take n l ++ q) k z ≡ get_or l k z
+  get_or-front l q n k z h i =
       get_or-append (take n l) q z k (simp (length-take-le n l h) i) ∙ get_or-take n l k z i
 
   -- FROM another list: i slots of s from a on are copied
@@ -39,7 +39,7 @@ module _ {A : Type 0} where
   left-more l from to i z h k =
       let hs : i < length (drop from l) = simp length-drop (omega arith) in
       ap (set (moved from to i l) (to + i))
-      (get_d_past (take to l ++ take i (drop from l)) l (to + i) (from + i) z
+      (get_or-past (take to l ++ take i (drop from l)) l (to + i) (from + i) z
       (length_paste_head l to (drop from l) i (omega arith) (omega arith)) (omega arith))
       ∙ copy_more l l from to i z (omega arith) k
 
@@ -65,7 +65,7 @@ module _ {A : Type 0} where
   right-suc l from to c i z h k j =
       let q : List A = take (c - suc i) (drop (from + suc i) l) ++ drop (to + c) l in
       let e₁ : get_or (Right l from to c (suc i)) (from + i) z ≡ get_or l (from + i) z =
-      get_d_front l q (to + suc i) (from + i) z (omega arith) (omega arith) in
+      get_or-front l q (to + suc i) (from + i) z (omega arith) (omega arith) in
       let e₂ : take (to + suc i) l ++ q ≡ take (to + i) l ++ get_or l (to + i) z ∷ q =
       ap (λ (n : ℕ). take n l ++ q) (add-suc to i)
       ∙ ap (λ (p : List A). p ++ q) (take-suc l (to + i) z (omega arith))

@@ -14,7 +14,7 @@ pub record Refuses (profile : ℕ) (L : Lent) (F : Forecast) (r : Worked) (left 
   pub stop : verdict_number r.stop ≡ check profile L F
   pub last : verdict_number r.last ≡ check profile L F
   pub forecast : r.forecast ≡ F
-  pub lent-left : left ≡ L
+  pub lent_left : left ≡ L
 
 -- Or what the records come to.
 pub record Opens (profile : ℕ) (L : Lent) (F : Forecast) (bytes : List ℕ) (allowance : ℕ) (r : Worked) (left : Lent) : Type 0 where

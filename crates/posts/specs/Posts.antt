@@ -18,10 +18,10 @@ two_words t = t.first ∷ t.second ∷ []
 -- Of a request that tells t: its number, its words over the reply, and the forecast F handed back.
 pub record Posted (words : Told → List ℕ) (t : Told) (F : Forecast) (forecast reply : List ℕ) (n : ℕ) (forecast' reply' : List ℕ) : Type 0 where
   pub number : n ≡ t.number
-  pub forecast-left : forecast' ≡ handed_back n F forecast
-  pub reply-left : reply' ≡ over (words t) reply
+  pub forecast_left : forecast' ≡ handed_back n F forecast
+  pub reply_left : reply' ≡ over (words t) reply
 
 pub record RunPosted (stop : ℕ) (F : Forecast) (tally : Tally) (sums : Totals) (forecast reply forecast' totals' reply' : List ℕ) : Type 0 where
-  pub forecast-left : forecast' ≡ handed_back stop F forecast
-  pub totals-left : totals' ≡ totals_words sums
-  pub reply-left : reply' ≡ over (reply_words tally) reply
+  pub forecast_left : forecast' ≡ handed_back stop F forecast
+  pub totals_left : totals' ≡ totals_words sums
+  pub reply_left : reply' ≡ over (reply_words tally) reply

@@ -11,7 +11,7 @@ use Rattle.rules.specs.Calls.{Worked, stopped_at_once, worked, run}
 use Rattle.rules.specs.Runs.{added}
 use Rattle.demands.proofs.Requests.Checked.{checked, checked-known, table-render}
 use Rattle.demands.proofs.Requests.Tabled.{room-passes}
-use Rattle.demands.proofs.Running.Runs.{run-refused, run-checked}
+use Rattle.demands.proofs.Running.Runs.{run_refused, run-checked}
 use Rattle.demands.proofs.Running.Singly.{good-ran}
 use Rattle.steps.specs.declared.Worked as steps
 use Rattle.steps.specs.Works.{whole, Ends}
@@ -33,22 +33,22 @@ module _ (profile : ℕ) (L : Lent) (F : Forecast) (bytes : List ℕ) (allowance
       let b = room-passes profile L F c in
       let h = checked profile L.slots F b in
       let right : left.table ≡ right_table (render 0 (whole profile L.slots (cards_of L) F bytes allowance).room.segments) =
-      e.table-left
+      e.table_left
       ∙ sym (table-render profile (checked-known profile L.slots F b) (height_of (length L.slots)) h.0 h.1 (whole profile L.slots (cards_of L) F bytes allowance).room (good-ran profile L F bytes allowance T c)) in
       let beside : left.cards ≡ cards_beside (whole profile L.slots (cards_of L) F bytes allowance).cards (render 0 (whole profile L.slots (cards_of L) F bytes allowance).room.segments) =
-      e.cards-left ∙ ap (cards_beside (whole profile L.slots (cards_of L) F bytes allowance).cards) e.slots-left in
-      λ i. record { slots = e.slots-left i; cards = beside i; table = right i }
+      e.cards_left ∙ ap (cards_beside (whole profile L.slots (cards_of L) F bytes allowance).cards) e.slots_left in
+      λ i. record { slots = e.slots_left i; cards = beside i; table = right i }
 
   -- refused by its check: nothing is added
   run-stopped : Reading T → check profile L F ≢ 0 → Refuses profile L F r left → RunAdmits profile L F bytes allowance T (run_of T r) left
   run-stopped h n e =
-      let w : run profile L F bytes allowance T ≡ stopped_at_once L F T (check profile L F) = run-refused profile L F bytes allowance T n in
+      let w : run profile L F bytes allowance T ≡ stopped_at_once L F T (check profile L F) = run_refused profile L F bytes allowance T n in
       record {
         tally = e.tally ∙ sym (ap (λ (z : Worked). z.reply.tally) w);
         stop = e.stop ∙ sym (ap (λ (z : Worked). z.reply.stop) w);
         forecast = e.forecast ∙ sym (ap (λ (z : Worked). z.forecast) w);
         totals = ap (added T) e.tally ∙ added-nothing T h ∙ sym (ap (λ (z : Worked). z.totals) w);
-        lent-left = e.lent-left ∙ sym (ap (λ (z : Worked). z.lent) w);
+        lent_left = e.lent_left ∙ sym (ap (λ (z : Worked). z.lent) w);
       }
 
   -- or it works the records
@@ -61,7 +61,7 @@ module _ (profile : ℕ) (L : Lent) (F : Forecast) (bytes : List ℕ) (allowance
         stop = e.stop ∙ sym (ap (λ (z : Worked). z.reply.stop) w);
         forecast = e.forecast ∙ sym (ap (λ (z : Worked). z.forecast) w);
         totals = ap (added T) e.tally ∙ sym (ap (λ (z : Worked). z.totals) w);
-        lent-left = ended ∙ sym (ap (λ (z : Worked). z.lent) w);
+        lent_left = ended ∙ sym (ap (λ (z : Worked). z.lent) w);
       }
 
   pub run-opened : Reading T → Opens profile L F bytes allowance r left → RunAdmits profile L F bytes allowance T (run_of T r) left

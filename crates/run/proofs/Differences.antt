@@ -6,7 +6,7 @@ use Rattle.rules.specs.declared.Totals.{Totals}
 use Rattle.rules.specs.Lent.{Lent, cards_of}
 use Rattle.rules.specs.Checks.{check}
 use Rattle.rules.specs.Calls.{Worked, stopped_at_once, worked, run}
-use Rattle.demands.proofs.Running.Runs.{run-refused, run-checked}
+use Rattle.demands.proofs.Running.Runs.{run_refused, run-checked}
 use Rattle.run.specs.declared.Run.{Run}
 use Rattle.run.specs.Sums.{since}
 use Rattle.run.specs.Admits.{RunAdmits}
@@ -33,7 +33,7 @@ run-differs profile L F bytes allowance T r left h a =
     elim (dec_lt 0 (check profile L F)) [
       | yes p ↦
           let n : check profile L F ≢ 0 = omega arith in
-          differs profile L F bytes allowance T r left a (stopped_at_once L F T (check profile L F)) (run-refused profile L F bytes allowance T n) (since-same T h)
+          differs profile L F bytes allowance T r left a (stopped_at_once L F T (check profile L F)) (run_refused profile L F bytes allowance T n) (since-same T h)
       | no p ↦
           let c : check profile L F ≡ 0 = omega arith in
           differs profile L F bytes allowance T r left a (worked T (whole profile L.slots (cards_of L) F bytes allowance)) (run-checked profile L F bytes allowance T c)

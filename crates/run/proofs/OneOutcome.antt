@@ -19,5 +19,5 @@ module _ (profile : ℕ) (L : Lent) (F : Forecast) (bytes : List ℕ) (allowance
       };
       totals = (a.totals ∙ sym b.totals) i;
     },
-    a.lent-left ∙ sym b.lent-left,
+    a.lent_left ∙ sym b.lent_left,
   )

@@ -14,4 +14,4 @@ pub record RunAdmits (profile : ℕ) (L : Lent) (F : Forecast) (bytes : List ℕ
   pub stop : verdict_number r.reply.stop ≡ (rules.run profile L F bytes allowance T).reply.stop
   pub forecast : r.reply.forecast ≡ (rules.run profile L F bytes allowance T).forecast
   pub totals : r.totals ≡ (rules.run profile L F bytes allowance T).totals
-  pub lent-left : left ≡ (rules.run profile L F bytes allowance T).lent
+  pub lent_left : left ≡ (rules.run profile L F bytes allowance T).lent

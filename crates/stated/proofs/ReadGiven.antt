@@ -26,7 +26,7 @@ module _ (profile : ℕ) (L : Lent) (forecast : List ℕ) (l : length forecast �
   unfolding make
   make-given m n left forecast' a w q =
       let words = w ∙ ap forecast_words a.forecast in
-      fitted (not_forecast forecast) _ _ (forecast-sized forecast l) (record { number = q ∙ a.answer; slices = λ i. (a.lent-left i).slots ∷ (a.lent-left i).cards ∷ (a.lent-left i).table ∷ words i ∷ [] })
+      fitted (not_forecast forecast) _ _ (forecast-sized forecast l) (record { number = q ∙ a.answer; slices = λ i. (a.lent_left i).slots ∷ (a.lent_left i).cards ∷ (a.lent_left i).table ∷ words i ∷ [] })
 
   pub check-given : (F : Forecast) (k : CheckAnswer) (n : ℕ) → F ≡ saturated (forecast_in forecast) → CheckAdmits profile L F k → n ≡ check_number k
       → Gives (check profile L.slots L.cards L.table forecast) n []
@@ -52,4 +52,4 @@ module _ (profile : ℕ) (L : Lent) (key : ℕ) (reply : List ℕ) where
       let written = ap (λ (x : Told). x.first) q ∙ a.written in
       let more = ap (λ (x : Told). x.second) q ∙ ap one a.more in
       let said = w ∙ (λ i. over (written i ∷ more i ∷ []) reply) in
-      fitted (short reply 2) _ _ (reply-sized reply 2 l) (record { number = number; slices = λ i. a.output i ∷ a.cards-output i ∷ said i ∷ [] })
+      fitted (short reply 2) _ _ (reply-sized reply 2 l) (record { number = number; slices = λ i. a.output i ∷ a.cards_output i ∷ said i ∷ [] })

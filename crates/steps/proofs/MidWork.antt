@@ -165,9 +165,9 @@ module _ {L : Lent} {N : Now} (g : Going L N) where
         tally = sym (ap (λ (r : Ran). r.tally) w);
         stop = sym (ap (λ (r : Ran). r.stop) w);
         forecast = sym g.shown ∙ sym (ap (λ (r : Ran). forecast_of r.room.cells) w);
-        slots-left = sym (slots-shown (number L) N.slots N.forecast g.stands.passes) ∙ sym (ap (λ (r : Ran). render 0 r.room.segments) w);
-        cards-left = g.beside ∙ sym (ap (λ (r : Ran). cards_beside r.cards N.slots) w);
-        table-left = right-stands g.stands g.index
+        slots_left = sym (slots-shown (number L) N.slots N.forecast g.stands.passes) ∙ sym (ap (λ (r : Ran). render 0 r.room.segments) w);
+        cards_left = g.beside ∙ sym (ap (λ (r : Ran). cards_beside r.cards N.slots) w);
+        table_left = right-stands g.stands g.index
             ∙ ap₂ table_of (sym (ap (λ (S : Shares). S.height) g.shares-lent)) (sym (ap (λ (r : Ran). r.room.segments) w));
         keys = sym (keys-stand g.stands) ∙ sym (ap (λ (r : Ran). length (keys r.room.segments)) w);
         single = λ q one z. last (sym (ap (λ (r : Ran). r.stop) w) ∙ z) q one;

@@ -169,13 +169,13 @@ module _ {slots : List ℕ} {F : Forecast} {bounds table : List ℕ} {k : Shape}
         let h = height-stands t.stands in
         let P : Profile = k.profile in
         let made = good-named P k.height O good in
-        let room : room_of slots' F' ≡ O = ap₂ room_of d.left.slots-left d.forecast ∙ room-render (number_of P) (number-known P) k.height h.0 h.1 O made in
+        let room : room_of slots' F' ≡ O = ap₂ room_of d.left.slots_left d.forecast ∙ room-render (number_of P) (number-known P) k.height h.0 h.1 O made in
         record {
           stands = record {
-            passes = ap₂ (check_both (number_of P)) d.left.slots-left d.forecast ∙ check-render (number_of P) (number-known P) k.height h.0 h.1 O made;
-            height = ap (λ (l : List ℕ). height_of (length l)) d.left.slots-left ∙ height-render (number_of P) (number-known P) k.height h.0 h.1 O made;
+            passes = ap₂ (check_both (number_of P)) d.left.slots_left d.forecast ∙ check-render (number_of P) (number-known P) k.height h.0 h.1 O made;
+            height = ap (λ (l : List ℕ). height_of (length l)) d.left.slots_left ∙ height-render (number_of P) (number-known P) k.height h.0 h.1 O made;
             shape = t.stands.shape;
-            many = ap (λ (l : List ℕ). length (live l)) d.left.slots-left
+            many = ap (λ (l : List ℕ). length (live l)) d.left.slots_left
                 ∙ ap (λ (l : List ℕ). length l) (live-render O.segments good.proper.listed.live) ∙ many;
           };
           shown = ap (λ (f : Forecast). forecast_of (used_cells f)) d.forecast ∙ ap forecast_of (used-forecast_of O.cells) ∙ sym d.forecast;

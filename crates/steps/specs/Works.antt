@@ -43,9 +43,9 @@ pub record Ends (profile : ℕ) (slots : List ℕ) (c : ℕ → ℕ) (F : Foreca
   pub tally : r.tally ≡ (whole profile slots c F bytes allowance).tally
   pub stop : verdict_number r.stop ≡ (whole profile slots c F bytes allowance).stop
   pub forecast : r.forecast ≡ forecast_of (whole profile slots c F bytes allowance).room.cells
-  pub slots-left : left.slots ≡ render 0 (whole profile slots c F bytes allowance).room.segments
-  pub cards-left : left.cards ≡ cards_beside (whole profile slots c F bytes allowance).cards left.slots
-  pub table-left : left.table ≡ table_of (height_of (length slots)) (whole profile slots c F bytes allowance).room.segments
+  pub slots_left : left.slots ≡ render 0 (whole profile slots c F bytes allowance).room.segments
+  pub cards_left : left.cards ≡ cards_beside (whole profile slots c F bytes allowance).cards left.slots
+  pub table_left : left.table ≡ table_of (height_of (length slots)) (whole profile slots c F bytes allowance).room.segments
   pub keys : r.keys ≡ length (keys (whole profile slots c F bytes allowance).room.segments)
   pub single : (a : Record) → records_of bytes ≡ a ∷ [] → (whole profile slots c F bytes allowance).stop ≡ 0
       → verdict_number r.last ≡ (outcome (shares_of profile slots) a.request (room_of slots F)).answer.number

@@ -137,13 +137,13 @@ module _ {slots bounds table : List ℕ} {F : Forecast} {k : Shape} {r : Aim} (A
     lent-shows : Shows (segments_of (take (64 * f + 64 * n - 64 * f) (drop (64 * f) slots))) (take (64 * f + 64 * n - 64 * f) (drop (64 * f) slots))
     lent-shows = record { whole = lent_is ∙ ap (render 0) (sym lent-segments); fits = rw lent-segments part-fits; listed = rw lent-segments part-listed }
 
-    counts-are : take (f + n - f) (drop f table) ≡ map length (take n (drop f (segments_of slots)))
-    counts-are =
+    counts_are : take (f + n - f) (drop f table) ≡ map length (take n (drop f (segments_of slots)))
+    counts_are =
         let e : f + n - f ≡ n = omega arith in
         ap (λ (j : ℕ). take j (drop f table)) e ∙ counts-within ss table (counts-held A.index) f n ends counts-lent
 
     counts-total : total (take (f + n - f) (drop f table)) ≡ length (keys (take n (drop f (segments_of slots))))
-    counts-total = ap total counts-are ∙ sym (length-joined part)
+    counts-total = ap total counts_are ∙ sym (length-joined part)
 
     -- the key is not yet there, or is
     fresh-part : r.grows ≡ true → T (not (member r.key (keys (take n (drop f (segments_of slots))))))
@@ -196,7 +196,7 @@ module _ {slots bounds table : List ℕ} {F : Forecast} {k : Shape} {r : Aim} (A
           → Planted (take (64 * f + 64 * n - 64 * f) (drop (64 * f) slots)) (take (f + n - f) (drop f table)) (take n ns) (b + r.at) r.key r.grows
       planted b e h = record {
         shows = lent-shows;
-        counted = counts-are ∙ ap (map length) (sym lent-segments);
+        counted = counts_are ∙ ap (map length) (sym lent-segments);
         long = plan-long ∙ sym counts-long;
         few = omega (arith, counts-long);
         fits = fits;
@@ -206,7 +206,7 @@ module _ {slots bounds table : List ℕ} {F : Forecast} {k : Shape} {r : Aim} (A
       }
         where
           counts-long : length (take (f + n - f) (drop f table)) ≡ n
-          counts-long = ap length counts-are ∙ length-map part length ∙ part-long
+          counts-long = ap length counts_are ∙ length-map part length ∙ part-long
 
       -- WHAT IT LEAVES
       abbrev dealt : Segments
@@ -246,15 +246,15 @@ module _ {slots bounds table : List ℕ} {F : Forecast} {k : Shape} {r : Aim} (A
         abbrev after : List ℕ
         after = put_mid (64 * f) (64 * f + 64 * n - 64 * f) slots last
 
-        slots-left : put_mid (64 * f) (64 * f + 64 * n - 64 * f) slots last ≡ render 0 (outcome_of slots F k r).room.segments
-        slots-left =
+        slots_left : put_mid (64 * f) (64 * f + 64 * n - 64 * f) slots last ≡ render 0 (outcome_of slots F k r).room.segments
+        slots_left =
             window-put 0 ss f n dealt (64 * f) (64 * f + 64 * n) slots last A.index.shows.fits A.index.shows.whole refl (omega arith)
             (sown ∙ ap (λ (z : Segments). render 0 (deal (take n ns) (changed g y (keys z)))) lent-segments)
             ∙ ap (render 0) (sym (left_is ∙ splice-set f n dealt ss s new from to))
 
         shows_left : Shows (outcome_of slots F k r).room.segments (put_mid (64 * f) (64 * f + 64 * n - 64 * f) slots last)
         shows_left = record {
-          whole = slots-left;
+          whole = slots_left;
           fits = λ x i. omega (arith, good_left.sizes x i, (lawful-stands A.stands).fits);
           listed = good_left.proper.listed;
         }
@@ -264,16 +264,16 @@ module _ {slots bounds table : List ℕ} {F : Forecast} {k : Shape} {r : Aim} (A
             → ((m : ℕ) (zs : Segments) → m ≤ f + n → Shows zs (put_mid (64 * f) (64 * f + 64 * n - 64 * f) slots last) → length zs ≤ 64 → Near m zs f (f + n) bounds → Bounded m zs bounds')
             → Left (outcome_of slots F k r) (put_mid (64 * f) (64 * f + 64 * n - 64 * f) slots last) bounds' table'
         swept-left bounds' table' recounts promise = record {
-          slots-left = slots-left;
+          slots_left = slots_left;
           index =
               subst (λ (z : Segments). Indexed z after bounds' table') (sym left_is)
-              (indexed-swept ss slots bounds table A.index after bounds' table' resown (subst (λ (z : Segments). Shows z after) left_is shows_left) promise table-left);
+              (indexed-swept ss slots bounds table A.index after bounds' table' resown (subst (λ (z : Segments). Shows z after) left_is shows_left) promise table_left);
         }
           where
             ix : Indexed ss slots bounds table
             ix = A.index
 
-            table-left : table' ≡ table_of ix.height (splice f n dealt ms)
-            table-left =
+            table_left : table' ≡ table_of ix.height (splice f n dealt ms)
+            table_left =
                 recounts ix.height ss dealt ix.size ix.right dealt-counts
                 ∙ ap (table_of ix.height) (ap (λ (j : ℕ). splice f j dealt ss) plan-long ∙ sym (splice-set f n dealt ss s new from to))

@@ -25,7 +25,7 @@ use Rattle.rules.specs.Shares.{Shares, cells_of}
 use Rattle.rules.specs.Placing.{Room, Outcome, home, put_in, cut_from, chosen, insert_level, delete_level, front_weight, sweep, settled, insert_key, delete_key, outcome}
 use Rattle.rules.specs.Readings.{Smallest}
 use Rattle.rules.specs.Calls.{room_of}
-use Rattle.demands.proofs.Sharing.Climb.{climb-is}
+use Rattle.demands.proofs.Sharing.Climb.{climb_is}
 use Rattle.demands.proofs.Sharing.Weighing.{noted-good, dropped-good, front-ruled}
 use Rattle.demands.proofs.Sweeping.SweptWindow.{home-in, here_in, there-window}
 use Rattle.demands.proofs.Requests.StaysGood.{Good}
@@ -118,7 +118,7 @@ module _ (S : Shares) (R : Room) (G : Good S R) (low : S.height ≤ 6) (y l : �
   sweeps true n e = record {
     left = ap (λ (o : Outcome). o.room.segments) a.is ∙ left_in e;
     done = refl;
-    small = ((climb-is S (home y ss) (put_in y ss)).0 l).0 (level_in e);
+    small = ((climb_is S (home y ss) (put_in y ss)).0 l).0 (level_in e);
     moves = ap (λ (o : Outcome). o.answer.moves) a.is ∙ moves-in e;
     between = home-in y ss g (omega (arith, G.proper.size, pow_pos S.height)) a.fresh;
     fresh = λ _. a.fresh;
@@ -132,7 +132,7 @@ module _ (S : Shares) (R : Room) (G : Good S R) (low : S.height ≤ 6) (y l : �
   sweeps false n e = record {
     left = ap (λ (o : Outcome). o.room.segments) a.is ∙ left_out e;
     done = refl;
-    small = ((climb-is S (segment_of ss y) (cut_from y ss)).0 l).0 (level_out e);
+    small = ((climb_is S (segment_of ss y) (cut_from y ss)).0 l).0 (level_out e);
     moves = ap (λ (o : Outcome). o.answer.moves) a.is ∙ moves_out e;
     between = here_in y ss g m;
     fresh = λ t. absurd (apart-back t);

@@ -57,7 +57,7 @@ Planned slots F k r plan = take (2 ^ r.level) plan ≡ plan_for slots F k r
 
 -- The segments of an outcome, with their bounds and table.
 pub record Left (o : Outcome) (slots bounds table : List ℕ) : Type 0 where
-  pub slots-left : slots ≡ render 0 o.room.segments
+  pub slots_left : slots ≡ render 0 o.room.segments
   pub index : Indexed o.room.segments slots bounds table
 
 -- All that it leaves.

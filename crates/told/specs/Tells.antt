@@ -13,4 +13,4 @@ pub record RunTells (profile : ℕ) (L : Lent) (F : Forecast) (bytes : List ℕ)
   pub stop : r.told.stop ≡ (rules.run profile L F bytes allowance T).reply.stop
   pub forecast : r.told.forecast ≡ (rules.run profile L F bytes allowance T).forecast
   pub totals : r.totals ≡ (rules.run profile L F bytes allowance T).totals
-  pub lent-left : left ≡ (rules.run profile L F bytes allowance T).lent
+  pub lent_left : left ≡ (rules.run profile L F bytes allowance T).lent

@@ -68,7 +68,7 @@ module _ (x : OnWords) where
 
   -- a checked run stops by 0, 9 or 10
   late : checks.check profile L (forecast_in forecast) ≡ 0 → works_on W.reply.stop ≡ true
-  late z = stops (singly.run-tells profile L (forecast_in forecast) requests allowance (totals_in totals) z).0
+  late z = stops (singly.run_tells profile L (forecast_in forecast) requests allowance (totals_in totals) z).0
     where
       stops : Tells (stop_rows profile requests allowance W) W.reply.stop → works_on W.reply.stop ≡ true
       stops (inl (u, e)) = ap works_on e
@@ -79,7 +79,7 @@ module _ (x : OnWords) where
   early : checks.check profile L (forecast_in forecast) ≢ 0 → works_on (checks.check profile L (forecast_in forecast)) ≡ false
   early z =
       works-not (checks.check profile L (forecast_in forecast))
-      (told-each plain (both_rows profile L (forecast_in forecast)) _ tt (below.check-tells profile L (forecast_in forecast) (forecast_in-roomy forecast))) z
+      (told-each plain (both_rows profile L (forecast_in forecast)) _ tt (below.check_tells profile L (forecast_in forecast) (forecast_in-roomy forecast))) z
 
   -- the words written are the same where the run is worked, and where it is refused at once those lent are left
   back : (n : ℕ) (G : Forecast) → n ≡ W.reply.stop
@@ -104,12 +104,12 @@ module _ (x : OnWords) where
   run-given F T k list' cards' table' forecast' totals' reply' f g a p =
       let is : rules.run profile L F requests allowance T ≡ rules.run profile L (saturated (forecast_in forecast)) requests allowance (totals_in totals) = λ i. rules.run profile L (f i) requests allowance (g i) in
       let same = run-same profile L (forecast_in forecast) requests allowance (totals_in totals) (forecast_in-roomy forecast) in
-      let lent = a.lent-left ∙ ap (λ (w : rules.Worked). w.lent) is ∙ same.lent in
+      let lent = a.lent_left ∙ ap (λ (w : rules.Worked). w.lent) is ∙ same.lent in
       let stop = a.stop ∙ ap (λ (w : rules.Worked). w.reply.stop) is ∙ ap (λ (r : rules.Reply). r.stop) same.reply in
-      let words = p.forecast-left ∙ back k.told.stop k.told.forecast stop (a.forecast ∙ ap (λ (w : rules.Worked). w.forecast) is) in
-      let sums = p.totals-left ∙ ap totals_words (a.totals ∙ ap (λ (w : rules.Worked). w.totals) is ∙ same.totals) in
+      let words = p.forecast_left ∙ back k.told.stop k.told.forecast stop (a.forecast ∙ ap (λ (w : rules.Worked). w.forecast) is) in
+      let sums = p.totals_left ∙ ap totals_words (a.totals ∙ ap (λ (w : rules.Worked). w.totals) is ∙ same.totals) in
       let tally = a.tally ∙ ap (λ (w : rules.Worked). w.reply.tally) is ∙ ap (λ (r : rules.Reply). r.tally) same.reply in
-      let said = p.reply-left ∙ ap (λ (t : Tally). over (reply_words t) x.reply) tally in
+      let said = p.reply_left ∙ ap (λ (t : Tally). over (reply_words t) x.reply) tally in
       fitted (not_forecast x.forecast || (not_totals x.totals || short x.reply 4)) _ _
       (nor (not_forecast x.forecast) (not_totals x.totals || short x.reply 4) (forecast-sized x.forecast x.forecast-fits)
       (nor (not_totals x.totals) (short x.reply 4) (totals-sized x.totals x.totals-fit) (reply-sized x.reply 4 x.reply-fits)))

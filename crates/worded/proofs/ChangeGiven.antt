@@ -75,8 +75,8 @@ module _ (profile : ℕ) (q : Request) (v : ℕ) (words : Told → List ℕ) (m 
       → F ≡ saturated (forecast_in forecast) → c ≡ rules.request profile q v (lend list cards table) F → Posted words (answer_words c.answer) c.forecast forecast reply n forecast' reply'
       → Gives (sized (not_forecast forecast || short reply m) (list ∷ cards ∷ table ∷ forecast ∷ reply ∷ []) Outcome) n (c.lent.slots ∷ c.lent.cards ∷ c.lent.table ∷ forecast' ∷ reply' ∷ [])
   request-given F c n forecast' reply' l k few f e p =
-      let d = asked profile q v (lend list cards table) forecast F c n forecast' l few f e p.number p.forecast-left in
-      let said = p.reply-left ∙ ap (λ (x : Answer). over (words (answer_words x)) reply) d.answer in
+      let d = asked profile q v (lend list cards table) forecast F c n forecast' l few f e p.number p.forecast_left in
+      let said = p.reply_left ∙ ap (λ (x : Answer). over (words (answer_words x)) reply) d.answer in
       fitted (not_forecast forecast || short reply m) _ _ (nor (not_forecast forecast) (short reply m) (forecast-sized forecast l) (reply-sized reply m k)) (record { number = p.number ∙ ap (λ (x : Answer). x.number) d.answer; slices = λ i. (d.lent i).slots ∷ (d.lent i).cards ∷ (d.lent i).table ∷ d.words i ∷ said i ∷ [] })
 
 module _ (profile : ℕ) (list cards table forecast : List ℕ) (key : ℕ) (reply : List ℕ) (l : length forecast ≡ 37) where
@@ -86,8 +86,8 @@ module _ (profile : ℕ) (list cards table forecast : List ℕ) (key : ℕ) (rep
   unfolding insert
   insert-given card F k n list' cards' table' forecast' reply' m f a =
       request-given profile (Insert key) card one_word 1 list cards table forecast reply F (record { answer = insert_paper k.answer; lent = lend list' cards' table'; forecast = k.forecast }) n forecast' reply' l m
-      (told-each plain (insert_rows profile (lend list cards table) (forecast_in forecast) key) _ tt (below.insert-tells profile (lend list cards table) (forecast_in forecast) key card (forecast_in-roomy forecast))) f
-      (λ i. record { answer = a.answer i; lent = a.lent-left i; forecast = a.forecast i })
+      (told-each plain (insert_rows profile (lend list cards table) (forecast_in forecast) key) _ tt (below.insert_tells profile (lend list cards table) (forecast_in forecast) key card (forecast_in-roomy forecast))) f
+      (λ i. record { answer = a.answer i; lent = a.lent_left i; forecast = a.forecast i })
 
   pub delete-given : (F : Forecast) (k : DeleteReply) (n : ℕ) (list' cards' table' forecast' reply' : List ℕ) → 2 ≤ length reply → F ≡ saturated (forecast_in forecast)
       → DeleteAdmits profile (lend list cards table) F key k (lend list' cards' table') → Posted two_words (answer_words (delete_paper k.answer)) k.forecast forecast reply n forecast' reply'
@@ -95,5 +95,5 @@ module _ (profile : ℕ) (list cards table forecast : List ℕ) (key : ℕ) (rep
   unfolding delete
   delete-given F k n list' cards' table' forecast' reply' m f a =
       request-given profile (Delete key) 0 two_words 2 list cards table forecast reply F (record { answer = delete_paper k.answer; lent = lend list' cards' table'; forecast = k.forecast }) n forecast' reply' l m
-      (told-each plain (delete_rows profile (lend list cards table) (forecast_in forecast) key) _ tt (below.delete-tells profile (lend list cards table) (forecast_in forecast) key (forecast_in-roomy forecast))) f
-      (λ i. record { answer = a.answer i; lent = a.lent-left i; forecast = a.forecast i })
+      (told-each plain (delete_rows profile (lend list cards table) (forecast_in forecast) key) _ tt (below.delete_tells profile (lend list cards table) (forecast_in forecast) key (forecast_in-roomy forecast))) f
+      (λ i. record { answer = a.answer i; lent = a.lent_left i; forecast = a.forecast i })

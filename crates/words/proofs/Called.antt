@@ -28,8 +28,8 @@ use Rattle.demands.proofs.Requests.Checked.{passed, both-pass}
 use Rattle.demands.proofs.Requests.CardsChecked.{cards-tested}
 use Rattle.demands.proofs.Requests.Tabled.{room-passes}
 use Rattle.demands.proofs.Requests.SingleCalls.{request-unchecked}
-use Rattle.demands.proofs.Refusals.Refused.{request-refused}
-use Rattle.demands.proofs.Running.Runs.{run-refused}
+use Rattle.demands.proofs.Refusals.Refused.{request_refused}
+use Rattle.demands.proofs.Running.Runs.{run_refused}
 use Rattle.words.specs.Words.{saturated}
 use Rattle.words.proofs.Saturated.{fault-same, sound-same}
 
@@ -90,7 +90,7 @@ request-same profile q v L F r =
             answer = ap (λ (c : Called). c.answer) e;
             lent = ap (λ (c : Called). c.lent) e;
             done = λ z. ap (λ (c : Called). c.forecast) e;
-            left = λ z. ap (λ (c : Called). c.forecast) (request-refused profile q v L F z);
+            left = λ z. ap (λ (c : Called). c.forecast) (request_refused profile q v L F z);
           })
       | inr t ↦
           (let n : check profile L F ≢ 0 = neqb→ne _ _ t in
@@ -100,7 +100,7 @@ request-same profile q v L F r =
             answer = ap (λ (c : Called). c.answer) e' ∙ ap refused (check-same profile L F) ∙ sym (ap (λ (c : Called). c.answer) e);
             lent = ap (λ (c : Called). c.lent) e' ∙ sym (ap (λ (c : Called). c.lent) e);
             done = λ z. absurd (n (sym (ap (λ (c : Called). c.answer.number) e) ∙ z));
-            left = λ z. ap (λ (c : Called). c.forecast) (request-refused profile q v L F z);
+            left = λ z. ap (λ (c : Called). c.forecast) (request_refused profile q v L F z);
           })
     ]
 
@@ -128,9 +128,9 @@ run-same profile L F bytes allowance S r =
           })
       | inr t ↦
           (let n : check profile L F ≢ 0 = neqb→ne _ _ t in
-          let e : run profile L F bytes allowance S ≡ stopped_at_once L F S (check profile L F) = run-refused profile L F bytes allowance S n in
+          let e : run profile L F bytes allowance S ≡ stopped_at_once L F S (check profile L F) = run_refused profile L F bytes allowance S n in
           let e' : run profile L (saturated F) bytes allowance S ≡ stopped_at_once L (saturated F) S (check profile L (saturated F)) =
-          run-refused profile L (saturated F) bytes allowance S (λ z. n (sym (check-same profile L F) ∙ z)) in
+          run_refused profile L (saturated F) bytes allowance S (λ z. n (sym (check-same profile L F) ∙ z)) in
           record {
             lent = ap (λ (w : Worked). w.lent) e' ∙ sym (ap (λ (w : Worked). w.lent) e);
             totals = ap (λ (w : Worked). w.totals) e' ∙ sym (ap (λ (w : Worked). w.totals) e);

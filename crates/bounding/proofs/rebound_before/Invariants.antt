@@ -1,5 +1,5 @@
 -- `rebound_before` writes the bounds of the empty segments before one. The loop's invariant: those from `s` on are right.
-use Prim.Native.Nat.{ℕ, ◌-◌, ◌≤◌}
+use Prim.Native.Nat.{ℕ, ◌≤◌}
 use mathlib.Core.Path.{◌≡◌}
 use lib.ListN.{length}
 use Rattle.slots.specs.Segments.{Segments}

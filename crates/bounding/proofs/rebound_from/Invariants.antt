@@ -1,5 +1,5 @@
 -- `rebound_from` writes the bounds of a stretch of segments, the last one first. The loop's invariant: those from `s` on are right.
-use Prim.Native.Nat.{ℕ, ◌-◌, ◌≤◌}
+use Prim.Native.Nat.{ℕ, ◌≤◌}
 use mathlib.Core.Path.{◌≡◌}
 use lib.ListN.{length}
 use Rattle.slots.specs.Segments.{Segments}

@@ -1,5 +1,5 @@
 -- few meets its contract. Invariant: after `i` turns the outputs are those of a copy of `i` slots.
-use Prim.Native.Nat.{ℕ, ◌-◌}
+use Prim.Native.Nat.{ℕ}
 use mathlib.Core.Path.{◌≡◌, ap, ◌∙◌}
 use native.Mathlib.Omega.{arith}
 use lib.ListN.{drop, length-set}

@@ -14,7 +14,7 @@ use Rattle.std.proofs.Common.{if◌then◌else◌}
 use Rattle.lists.specs.Lists.{All}
 use Rattle.lists.specs.Search.{place_by}
 use Rattle.lists.proofs.Tests.{neqb→ne, ne→neqb}
-use Rattle.lists.proofs.Maps.{get_d_map}
+use Rattle.std.proofs.lemmas.List.{get_or-map}
 use Rattle.lists.proofs.Filtered.{mem-only, only-mem}
 use Rattle.lists.proofs.Search.{place-mem, place-passes}
 use Rattle.slots.specs.Segments.{Segments, is_key, keys, live, render}
@@ -68,7 +68,7 @@ module _ (c : ℕ → ℕ) where
   at-beside slots k m n =
       let i : ℕ = place_by (eqb k) slots in
       let h : i < length slots = place-mem (eqb k) slots k m (eqb_refl k) in
-      get_d_map (card_in c) slots i 0 0 h ∙ ap (card_in c) (sym (eqb→eq k (get_or slots i 0) (place-passes (eqb k) slots 0 h))) ∙ in-key c k n
+      get_or-map (card_in c) slots i 0 0 h ∙ ap (card_in c) (sym (eqb→eq k (get_or slots i 0) (place-passes (eqb k) slots 0 h))) ∙ in-key c k n
 
   -- beside keys alone, their cards
   pub beside-alone : (ks : List ℕ) → All (λ k. 0 < k) ks → map (card_in c) ks ≡ map c ks

@@ -10,7 +10,7 @@ use lib.Dec.{eqb, eqb→eq, eqb_refl}
 use lib.ListN.{length, get_or}
 use lib.Seq.{ext_get_or}
 use Rattle.lists.specs.Search.{place_by}
-use Rattle.lists.proofs.Maps.{get_d_map}
+use Rattle.std.proofs.lemmas.List.{get_or-map}
 use Rattle.lists.proofs.Members.{at_mem}
 use Rattle.lists.proofs.Search.{place-mem, place-passes}
 use Rattle.slots.specs.Orders.{slot_at}
@@ -53,7 +53,7 @@ beside-own slots cards o e clean = ext_get_or 0 cards (cards_beside c slots) (e 
     c = card_at slots cards
 
     own : (i : ℕ) → i < length slots → get_or (cards_beside c slots) i 0 ≡ card_in c (slot_at slots i)
-    own i h = ap (λ (l : List ℕ). get_or l i 0) (beside-map c slots) ∙ get_d_map (card_in c) slots i 0 0 h
+    own i h = ap (λ (l : List ℕ). get_or l i 0) (beside-map c slots) ∙ get_or-map (card_in c) slots i 0 0 h
 
     same : (i : ℕ) → i < length cards → get_or cards i 0 ≡ get_or (cards_beside c slots) i 0
     same i h =

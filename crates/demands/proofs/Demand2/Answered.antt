@@ -38,7 +38,7 @@ use Rattle.demands.proofs.Requests.Checked.{passed, list-passes, checked, keys-s
 use Rattle.demands.proofs.Requests.Tabled.{check-passed, room-passes, read-passes}
 use Rattle.demands.proofs.Refusals.Rows.{most-keys}
 use Rattle.demands.proofs.Refusals.CheckCases.{lookup-passed, scan-passed}
-use Rattle.demands.proofs.Requests.SingleCalls.{lent_outcome, by_number, lent-accepted, lent-refused, request-answer, request-keeps, good-lent}
+use Rattle.demands.proofs.Requests.SingleCalls.{lent_outcome, by_number, lent-accepted, lent-refused, request-answer, request_keeps, good-lent}
 use Rattle.demands.proofs.Requests.MadeEmpty.{made-is, made-length, made-passes, made-keys}
 use Rattle.demands.proofs.Sets.SetSteps.{insert-number, delete-number, delete-sparse}
 use Rattle.demands.proofs.Sets.SetCards.{told-agree}
@@ -129,8 +129,8 @@ module _ (profile h : ℕ) (from : 1 ≤ h) (to : h ≤ 6) (H : Held) (E : set.E
 
     next-stands : (X : set.Events) → (if eqb next.answer.number 0 then events_after q v E else E) ≡ X → Stands profile h (record { lent = next.lent; forecast = next.forecast }) X
     next-stands X e = record {
-      passes = (request-keeps profile q v H.lent H.forecast I.passes).0;
-      height = ap height_of (request-keeps profile q v H.lent H.forecast I.passes).1 ∙ I.height;
+      passes = (request_keeps profile q v H.lent H.forecast I.passes).0;
+      height = ap height_of (request_keeps profile q v H.lent H.forecast I.passes).1 ∙ I.height;
       holds = subst (λ (Y : set.Events). Holds Y next.lent) e next-holds;
     }
 
@@ -190,6 +190,6 @@ module _ (profile : ℕ) (known : T (is_profile profile)) (h : ℕ) (from : 1 �
         → (all_told profile asks (made profile L) ≡ set.all_told up_to below asks set.empty) × Stands profile h (after_all profile asks (made profile L)) (set.after_all up_to asks set.empty)
     from-made asks = from-held asks (made profile L) set.empty made-stands
 
-pub sequence-answered : SequenceAnswered
-sequence-answered First h from to L e c t asks = let r = from-made 1 tt h from to L e c t asks in (r.0, r.1.holds, r.1.passes)
-sequence-answered Second h from to L e c t asks = let r = from-made 2 tt h from to L e c t asks in (r.0, r.1.holds, r.1.passes)
+pub sequence_answered : SequenceAnswered
+sequence_answered First h from to L e c t asks = let r = from-made 1 tt h from to L e c t asks in (r.0, r.1.holds, r.1.passes)
+sequence_answered Second h from to L e c t asks = let r = from-made 2 tt h from to L e c t asks in (r.0, r.1.holds, r.1.passes)

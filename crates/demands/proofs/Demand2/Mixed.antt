@@ -29,7 +29,7 @@ use Rattle.demands.proofs.Requests.CardsChecked.{cards-pass}
 use Rattle.demands.proofs.Requests.Tabled.{number-stays, table-passes, check-passed, room-passes}
 use Rattle.demands.proofs.Refusals.Rows.{most-keys}
 use Rattle.demands.proofs.Requests.SingleCalls.{request-unchecked}
-use Rattle.demands.proofs.Refusals.CheckCases.{unknown-profile, cards-in, forecast-sound, lookup-refused, scan-refused}
+use Rattle.demands.proofs.Refusals.CheckCases.{unknown-profile, cards-in, forecast-sound, lookup_refused, scan_refused}
 use Rattle.demands.proofs.Demand2.Answered.{Stands, same-told, same_after, made-stands}
 
 -- REFUSED by number k: what is told, and nothing is changed
@@ -43,9 +43,9 @@ module _ (n : ℕ) (H : Held) (k : ℕ) (some : k ≢ 0) (read : check_read n H.
   refused-told : (a : set.Ask) → told n a H ≡ refused_told k a
   refused-told (set.Insert y v) = ap (λ (c : Called). set.Inserted c.answer.number) (left (Insert y) v) ∙ ap set.Inserted all
   refused-told (set.Delete y) = ap (λ (c : Called). set.Deleted c.answer.number c.answer.sparse) (left (Delete y) 0) ∙ ap (λ (x : ℕ). set.Deleted x false) all
-  refused-told (set.Lookup y) = ap (λ (f : Found). set.Found f.number f.present f.card) (lookup-refused n H.lent y unread) ∙ ap (λ (x : ℕ). set.Found x false 0) read
+  refused-told (set.Lookup y) = ap (λ (f : Found). set.Found f.number f.present f.card) (lookup_refused n H.lent y unread) ∙ ap (λ (x : ℕ). set.Found x false 0) read
   refused-told (set.Scan a out cards) =
-      ap (λ (r : Scanned). set.Scanned r.number r.written r.more r.output r.cards) (scan-refused n H.lent a out cards unread)
+      ap (λ (r : Scanned). set.Scanned r.number r.written r.more r.output r.cards) (scan_refused n H.lent a out cards unread)
       ∙ ap (λ (x : ℕ). set.Scanned x 0 false out cards) read
 
   refused-after : (a : set.Ask) → after n a H ≡ H
@@ -152,8 +152,8 @@ module _ (h : ℕ) (from : 1 ≤ h) (to : h ≤ 6) where
       = from-mixed asks (after a.profile a.ask H) (set_after h a E) (mixed-after H E I a) in
       (ap₂ {C = List set.Told} ◌∷◌ (mixed-told H E I a) rest.0, rest.1)
 
-pub mixed-answered : MixedAnswered
-mixed-answered p h from to L e c t asks =
+pub mixed_answered : MixedAnswered
+mixed_answered p h from to L e c t asks =
     let n : ℕ = number_of p in
     let r = from-mixed h from to asks (made n L) set.empty (widened h from to n (made n L) set.empty (made-stands n (number-known p) h from to L e c t)) in
     (r.0, r.1.holds, r.1.passes)

@@ -68,8 +68,8 @@ module _ (profile : ℕ) (known : T (is_profile profile)) (h : ℕ) (from : 1 �
     moves-are (set.Lookup y) = refl
     moves-are (set.Scan a out cards) = refl
 
-    is-room : IsRoom profile S R c (held_of c R)
-    is-room = record {
+    is_room : IsRoom profile S R c (held_of c R)
+    is_room = record {
       slots = refl;
       cards = refl;
       table = table-render profile known h from to R g;
@@ -93,8 +93,8 @@ module _ (profile : ℕ) (known : T (is_profile profile)) (h : ℕ) (from : 1 �
       ap₂ {C = List ℕ} ◌∷◌ (moves-are R g c a) (ap {B = List ℕ} (λ H. all_moves profile asks H) (after_is R g c a) ∙ all-moves asks (ruled S a R) (good-ruled a R g) (ruled_cards S a R c))
 
 -- ONE REQUEST on what passes the check
-pub request-ruled : RequestRuled
-request-ruled profile q v L F f c =
+pub request_ruled : RequestRuled
+request_ruled profile q v L F f c =
     subst (λ (H : Held). AsRuled (shares_of profile slots) (cards_after (outcome (shares_of profile slots) q (room_of slots F)) q v (cards_of L)) (called profile q v H) (outcome (shares_of profile slots) q (room_of slots F))) whole
     (as-ruled profile (checked-known profile slots F both) (height_of (length slots)) (checked profile slots F both).0 (checked profile slots F both).1 (room_of slots F) (checked profile slots F both).2 (cards_of L) q v)
   where
@@ -124,10 +124,10 @@ module _ (profile : ℕ) (known : T (is_profile profile)) (h : ℕ) (from : 1 �
   ruled-made : IsRoom profile U (ruled_all U asks (empty_room h)) (ruled_all_cards U asks (empty_room h) none) (after_all profile asks (made profile L)) × (all_moves profile asks (made profile L) ≡ all_ruled_moves U asks (empty_room h))
   ruled-made = (
     subst (IsRoom profile U (ruled_all U asks (empty_room h)) (ruled_all_cards U asks (empty_room h) none)) (sym there)
-        (is-room profile known h from to (ruled_all U asks (empty_room h)) (good-all profile known h from to asks (empty_room h) (good-empty (profile_of profile) h)) (ruled_all_cards U asks (empty_room h) none)),
+        (is_room profile known h from to (ruled_all U asks (empty_room h)) (good-all profile known h from to asks (empty_room h) (good-empty (profile_of profile) h)) (ruled_all_cards U asks (empty_room h) none)),
     ap {B = List ℕ} (λ H. all_moves profile asks H) begins ∙ all-moves profile known h from to asks (empty_room h) (good-empty (profile_of profile) h) none,
   )
 
-pub sequence-ruled : SequenceRuled
-sequence-ruled First h from to L e c t asks = ruled-made 1 tt h from to L e c t asks
-sequence-ruled Second h from to L e c t asks = ruled-made 2 tt h from to L e c t asks
+pub sequence_ruled : SequenceRuled
+sequence_ruled First h from to L e c t asks = ruled-made 1 tt h from to L e c t asks
+sequence_ruled Second h from to L e c t asks = ruled-made 2 tt h from to L e c t asks

@@ -26,17 +26,17 @@ use Rattle.rules.specs.Readings.{Proper}
 use Rattle.demands.specs.History.{Event, accepted, Turn, events}
 use Rattle.demands.specs.Demand3Lent.{event_of, LentInside, LentAsk, Change, Lookup, Scan, lent_events, lent_profiles, LentAgain}
 use Rattle.rules.proofs.Sharing.Table.{lawful}
-use Rattle.demands.proofs.Refusals.Refused.{request-refused}
+use Rattle.demands.proofs.Refusals.Refused.{request_refused}
 use Rattle.demands.proofs.Requests.Checked.{checked, checked-known, room-render}
 use Rattle.demands.proofs.Requests.Tabled.{room-passes}
-use Rattle.demands.proofs.Requests.SingleCalls.{lent_outcome, request-unchecked, lent-accepted, request-answer, request-keeps, good-lent}
+use Rattle.demands.proofs.Requests.SingleCalls.{lent_outcome, request-unchecked, lent-accepted, request-answer, request_keeps, good-lent}
 use Rattle.demands.proofs.Demand3.Inside.{inside-kept}
 use Rattle.demands.proofs.Demand3.Again.{swept-again}
 
 -- ONE CALL
 module _ (profile : ℕ) (q : Request) (v : ℕ) (L : Lent) (F : Forecast) where
   stays_lent : (request profile q v L F).answer.number ≢ 0 → (request profile q v L F).lent.slots ≡ L.slots
-  stays_lent n = ap (λ (c : Called). c.lent.slots) (request-refused profile q v L F n)
+  stays_lent n = ap (λ (c : Called). c.lent.slots) (request_refused profile q v L F n)
 
   module _ (e : (request profile q v L F).answer.number ≡ 0) where
     -- what is accepted has passed the check, and the rules accept it
@@ -70,11 +70,11 @@ module _ (profile : ℕ) (q : Request) (v : ℕ) (L : Lent) (F : Forecast) where
         (room-render profile (checked-known profile L.slots F sound) (height_of (length L.slots)) (checked profile L.slots F sound).0 (checked profile L.slots F sound).1 (lent_outcome profile q L.slots F).room (good-lent profile q L.slots F sound))
 
     shares_left : shares_of profile (request profile q v L F).lent.slots ≡ shares_of profile L.slots
-    shares_left = ap (λ (n : ℕ). shares (profile_of profile) (height_of n)) (request-keeps profile q v L F passes).1
+    shares_left = ap (λ (n : ℕ). shares (profile_of profile) (height_of n)) (request_keeps profile q v L F passes).1
 
 -- FIRST PART
-pub lent-inside : LentInside
-lent-inside profile q v L F e k u j t h w =
+pub lent_inside : LentInside
+lent_inside profile q v L F e k u j t h w =
     rw (segments-left profile q v L F e)
     (inside-kept (shares_of profile L.slots) (lawful-lent profile q v L F e) q (room_of L.slots F) (proper-lent profile q v L F e) (accepted-lent profile q v L F e) k u j t h w)
 

@@ -25,7 +25,7 @@ delete-swept : (S : Shares) (y : ℕ) (R : Room) → (delete_key S y R).swept �
 unfolding delete_key
 delete-swept S y R = settled-swept S _ _ _ _ _ _
 
-pub sweeps-told : SweepsTold
-sweeps-told S (Insert y) R t = ap (λ (o : Outcome). o.swept) (insert-accepted S y R t).is ∙ insert-swept S y R
-sweeps-told S (Delete y) R t = ap (λ (o : Outcome). o.swept) (delete-accepted S y R t).is ∙ delete-swept S y R
-sweeps-told S Bad R t = absurd (bad-refused S R t)
+pub sweeps_told : SweepsTold
+sweeps_told S (Insert y) R t = ap (λ (o : Outcome). o.swept) (insert-accepted S y R t).is ∙ insert-swept S y R
+sweeps_told S (Delete y) R t = ap (λ (o : Outcome). o.swept) (delete-accepted S y R t).is ∙ delete-swept S y R
+sweeps_told S Bad R t = absurd (bad-refused S R t)

@@ -103,9 +103,9 @@ module _ (profile : ℕ) (L : Lent) where
 
 -- LOOKUP
 module _ (profile : ℕ) (L : Lent) (y : ℕ) where
-  pub lookup-refused : check_read profile L ≢ 0 → lookup profile L y ≡ not_found (check_read profile L)
+  pub lookup_refused : check_read profile L ≢ 0 → lookup profile L y ≡ not_found (check_read profile L)
   unfolding lookup
-  lookup-refused n = rw (ne_eqb (check_read profile L) 0 n)
+  lookup_refused n = rw (ne_eqb (check_read profile L) 0 n)
 
   pub lookup-passed : check_read profile L ≡ 0 → lookup profile L y ≡ looked_up y (cards_of L) (segments_of L.slots)
   unfolding lookup
@@ -113,9 +113,9 @@ module _ (profile : ℕ) (L : Lent) (y : ℕ) where
 
 -- SCAN
 module _ (profile : ℕ) (L : Lent) (a : ℕ) (out cards : List ℕ) where
-  pub scan-refused : check_read profile L ≢ 0 → scan profile L a out cards ≡ record { number = check_read profile L; written = 0; more = false; output = out; cards = cards }
+  pub scan_refused : check_read profile L ≢ 0 → scan profile L a out cards ≡ record { number = check_read profile L; written = 0; more = false; output = out; cards = cards }
   unfolding scan
-  scan-refused n = rw (ne_eqb (check_read profile L) 0 n)
+  scan_refused n = rw (ne_eqb (check_read profile L) 0 n)
 
   pub scan-passed : check_read profile L ≡ 0 → scan profile L a out cards ≡ scanned a (cards_of L) (segments_of L.slots) out cards
   unfolding scan

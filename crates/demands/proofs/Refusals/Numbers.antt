@@ -42,9 +42,9 @@ abbrev itself : ℕ → ℕ
 itself n = n
 
 -- MAKE
-pub make-tells : MakeTells
+pub make_tells : MakeTells
 unfolding make
-make-tells profile L =
+make_tells profile L =
     tells-if (λ (m : Made). m.number) (not (is_profile profile)) (row15 profile) (row1 L.slots ∷ row12 L ∷ row14_size L ∷ []) _ _ refl (decides-15 profile) λ t.
     tells-if (λ (m : Made). m.number) (eqb (height_of (length L.slots)) 0) (row1 L.slots) (row12 L ∷ row14_size L ∷ []) _ _ refl (decides-1 L.slots) λ u.
     tells-if (λ (m : Made). m.number) (not (eqb (length L.cards) (length L.slots))) (row12 L) (row14_size L ∷ []) _ _ refl (decides-12 L) λ s.
@@ -95,25 +95,25 @@ forecast-tells profile L F r =
 both-numbered : (profile : ℕ) (L : Lent) (F : Forecast) → Numbered (both_rows profile L F)
 both-numbered profile L F = omega arith
 
-pub check-tells : CheckTells
+pub check_tells : CheckTells
 unfolding check then_table
-check-tells profile L F r =
+check_tells profile L F r =
     tells_more itself (list_rows profile L ++ (row4 L.slots F ∷ [])) (row14 L ∷ []) (then_forecast (check_cards profile L) profile L.slots F) _ _ (omega arith) (forecast-tells profile L F r) refl λ e.
     table-tells L (cards-before profile L (forecast-passed (check_cards profile L) profile L.slots F e).0).number
 
-pub check-passes : CheckPasses
-check-passes profile L F r = tells_none (both_rows profile L F) (check profile L F) (both-numbered profile L F) (check-tells profile L F r)
+pub check_passes : CheckPasses
+check_passes profile L F r = tells_none (both_rows profile L F) (check profile L F) (both-numbered profile L F) (check_tells profile L F r)
 
 -- LOOKUP AND SCAN
-pub lookup-tells : LookupTells
+pub lookup_tells : LookupTells
 unfolding lookup
-lookup-tells profile L y =
+lookup_tells profile L y =
     tells_more (λ (f : Found). f.number) (read_rows profile L) (row5 y ∷ []) (check_read profile L) _ _ (read-numbered profile L) (read-tells profile L) refl λ e.
     rw (looked-number y (cards_of L) (segments_of L.slots)) (tells-if itself (eqb y 0) (row5 y) [] 5 0 refl (decides-5 y) λ t. refl)
 
-pub scan-tells : ScanTells
+pub scan_tells : ScanTells
 unfolding scan scanned
-scan-tells profile L a out cards =
+scan_tells profile L a out cards =
     tells_more (λ (s : Scanned). s.number) (read_rows profile L) [] (check_read profile L) _ (scanned a (cards_of L) (segments_of L.slots) out cards) (read-numbered profile L) (read-tells profile L) refl λ e. refl
 
 -- INSERT AND DELETE
@@ -142,7 +142,7 @@ request-tells : (profile : ℕ) (q : Request) (v : ℕ) (rest : List Row) (L : L
     → Tells (both_rows profile L F ++ rest) (request profile q v L F).answer.number
 unfolding request
 request-tells profile q v rest L F r t =
-    tells_more told (both_rows profile L F) rest (check profile L F) (unchanged L F (check profile L F)) _ (both-numbered profile L F) (check-tells profile L F r) refl λ e.
+    tells_more told (both_rows profile L F) rest (check profile L F) (unchanged L F (check profile L F)) _ (both-numbered profile L F) (check_tells profile L F r) refl λ e.
     rw (either (eqb (number o) 0)) (t e)
   where
     told : Called → ℕ
@@ -159,10 +159,10 @@ request-tells profile q v rest L F r t =
 before : (profile : ℕ) (L : Lent) (F : Forecast) → check profile L F ≡ 0 → Passed profile L.slots
 before profile L F e = passed profile L.slots (list-passes profile L.slots F (room-passes profile L F e))
 
-pub insert-tells : InsertTells
-insert-tells profile L F y v r =
+pub insert_tells : InsertTells
+insert_tells profile L F y v r =
     request-tells profile (Insert y) v (row5 y ∷ row6 L.slots y ∷ row8 profile L.slots ∷ []) L F r (λ e. insert-rows profile L.slots F (before profile L F e) y)
 
-pub delete-tells : DeleteTells
-delete-tells profile L F y r =
+pub delete_tells : DeleteTells
+delete_tells profile L F y r =
     request-tells profile (Delete y) 0 (row5 y ∷ row7 L.slots y ∷ []) L F r (λ e. delete-rows profile L.slots F (before profile L F e) y)

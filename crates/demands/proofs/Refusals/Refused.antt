@@ -20,9 +20,9 @@ use Rattle.rules.specs.Calls.{room_of, Made, not_made, make, lookup, scan, Calle
 use Rattle.demands.specs.Demand1.{RequestRefused, LookupRefused, ScanRefused, MakeRefused}
 
 -- an insert or delete
-pub request-refused : RequestRefused
+pub request_refused : RequestRefused
 unfolding request
-request-refused profile q v L F = go (eqb (check profile L F) 0) (eqb o.answer.number 0) (eqb→eq _ 0)
+request_refused profile q v L F = go (eqb (check profile L F) 0) (eqb o.answer.number 0) (eqb→eq _ 0)
   where
     o : Outcome
     o = outcome (shares_of profile L.slots) q (room_of L.slots F)
@@ -36,9 +36,9 @@ request-refused profile q v L F = go (eqb (check profile L F) 0) (eqb o.answer.n
     go true true e n = absurd (n (e tt))
 
 -- a lookup
-pub lookup-refused : LookupRefused
+pub lookup_refused : LookupRefused
 unfolding lookup looked_up
-lookup-refused profile L y = go (eqb (check_read profile L) 0) (eqb y 0) (member y (keys (segments_of L.slots)))
+lookup_refused profile L y = go (eqb (check_read profile L) 0) (eqb y 0) (member y (keys (segments_of L.slots)))
   where
     r : Bool → Bool → Bool → Found
     r a b c =
@@ -54,9 +54,9 @@ lookup-refused profile L y = go (eqb (check_read profile L) 0) (eqb y 0) (member
     go true false false n = absurd (n refl)
 
 -- a scan
-pub scan-refused : ScanRefused
+pub scan_refused : ScanRefused
 unfolding scan scanned
-scan-refused profile L a out cards = go (eqb (check_read profile L) 0)
+scan_refused profile L a out cards = go (eqb (check_read profile L) 0)
   where
     none : Scanned
     none = record { number = check_read profile L; written = 0; more = false; output = out; cards = cards }
@@ -69,9 +69,9 @@ scan-refused profile L a out cards = go (eqb (check_read profile L) 0)
     go true n = absurd (n refl)
 
 -- making empty
-pub make-refused : MakeRefused
+pub make_refused : MakeRefused
 unfolding make
-make-refused profile L =
+make_refused profile L =
     go (is_profile profile) (eqb (height_of (length L.slots)) 0) (eqb (length L.cards) (length L.slots)) (eqb (length L.table) (table_size (height_of (length L.slots))))
   where
     r : Bool → Bool → Bool → Bool → Made

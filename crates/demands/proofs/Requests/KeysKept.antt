@@ -56,9 +56,9 @@ aims : (place : ℕ → ℕ) (cs : List Cell) → All (λ c. c.segment ≡ place
 unfolding retargeted
 aims place cs = map-all (λ c. c.segment ≡ place c.marker) (aimed place) cs (λ c m. refl)
 
-pub cells-aim : CellsAim
-cells-aim S (Insert y) R e =
+pub cells_aim : CellsAim
+cells_aim S (Insert y) R e =
     rw (insert-accepted S y R (eq→eqb (outcome S (Insert y) R).answer.number 0 e)).is (rw (cells-insert S y R) (aims (segment_of (insert_key S y R).room.segments) _))
-cells-aim S (Delete y) R e =
+cells_aim S (Delete y) R e =
     rw (delete-accepted S y R (eq→eqb (outcome S (Delete y) R).answer.number 0 e)).is (rw (cells-delete S y R) (aims (segment_of (delete_key S y R).room.segments) _))
-cells-aim S Bad R e = absurd (bad-refused S R (eq→eqb (outcome S Bad R).answer.number 0 e))
+cells_aim S Bad R e = absurd (bad-refused S R (eq→eqb (outcome S Bad R).answer.number 0 e))

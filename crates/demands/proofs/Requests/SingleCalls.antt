@@ -75,8 +75,8 @@ module _ (profile : ℕ) (q : Request) (v : ℕ) (L : Lent) (F : Forecast) where
       by_number ((request profile q v L F).answer ≡ o.answer) (λ n. ap (λ (c : Called). c.answer) (lent-accepted e n))
       (λ n. ap (λ (c : Called). c.answer) (lent-refused e n) ∙ sym (ap (λ (p : Outcome). p.answer) (refused-is (shares_of profile L.slots) q (room_of L.slots F) n)))
 
-pub request-keeps : RequestKeeps
-request-keeps profile q v L F e =
+pub request_keeps : RequestKeeps
+request_keeps profile q v L F e =
     by_number profile q v L F ((check profile (request profile q v L F).lent (request profile q v L F).forecast ≡ 0) × (length (request profile q v L F).lent.slots ≡ length L.slots))
     (λ n. rw (lent-accepted profile q v L F e n) (changed-keeps profile q L.slots F (carded q v (cards_of L)) (room-passes profile L F e)))
     (λ n. rw (lent-refused profile q v L F e n) (e, refl))

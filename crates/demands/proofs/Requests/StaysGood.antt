@@ -27,7 +27,7 @@ use Rattle.rules.specs.Readings.{Proper}
 use Rattle.demands.specs.History.{accepted}
 use Rattle.demands.proofs.Requests.Accepted.{Inserts, insert-accepted, Deletes, delete-accepted, bad-refused, refused-is}
 use Rattle.demands.proofs.Requests.Moved.{moved, keys-insert, keys-delete}
-use Rattle.demands.proofs.Sweeping.Sizes.{sizes-kept}
+use Rattle.demands.proofs.Sweeping.Sizes.{sizes_kept}
 use Rattle.demands.proofs.Requests.KeysKept.{cells-insert, cells-delete}
 
 pub record Good (S : Shares) (R : Room) : Type 0 where
@@ -95,7 +95,7 @@ good-accepted S L q R G t = record {
 }
   where
     z : All (λ x. length x ≤ 64) (outcome S q R).room.segments × (length (keys (outcome S q R).room.segments) ≤ capacity S)
-    z = sizes-kept S L q R G.proper t 64 L.fits G.sizes G.room
+    z = sizes_kept S L q R G.proper t 64 L.fits G.sizes G.room
 
     c : Kept S (outcome S q R).room
     c = kept-accepted S q R G.proper G.ruled t

@@ -65,9 +65,9 @@ module _ (profile : ℕ) (L : Lent) where
         let p = cards-passed profile L z in
         (ap (λ (n : ℕ). then_forecast n profile L.slots F) (p.0 ∙ sym z) ∙ t.0, p.1, t.1)
 
-    pub check-passes : (c : ℕ → ℕ) → check_both profile L.slots F ≡ 0 → L.cards ≡ cards_beside c L.slots → L.table ≡ right_table L.slots → check profile L F ≡ 0
+    pub check_passes : (c : ℕ → ℕ) → check_both profile L.slots F ≡ 0 → L.cards ≡ cards_beside c L.slots → L.table ≡ right_table L.slots → check profile L F ≡ 0
     unfolding check check_both
-    check-passes c e b r =
+    check_passes c e b r =
         let l : check_list profile L.slots ≡ 0 = list-passes profile L.slots F e in
         table-passes (then_forecast (check_cards profile L) profile L.slots F) L
         (ap (λ (n : ℕ). then_forecast n profile L.slots F) (cards-pass profile L c l b ∙ sym l) ∙ e) r
@@ -83,4 +83,4 @@ module _ (profile : ℕ) (L : Lent) where
 -- and slots that pass do so with any cards of their keys and their table
 module _ (profile : ℕ) (c : ℕ → ℕ) (slots : List ℕ) where
   pub laid-passes : (F : Forecast) → check_both profile slots F ≡ 0 → check profile (laid c slots) F ≡ 0
-  laid-passes F e = check-passes profile (laid c slots) F c e refl refl
+  laid-passes F e = check_passes profile (laid c slots) F c e refl refl

@@ -29,7 +29,7 @@ use Rattle.demands.proofs.Requests.Checked.{checked, checked-known, height-rende
 use Rattle.demands.proofs.Requests.Tabled.{room-passes}
 use Rattle.demands.proofs.Running.RequestsWorked.{room_next, cards_next, tally_next, work-end, work-bad, work-over, work-on}
 use Rattle.demands.proofs.Running.Alike.{ran-alike, worked-alike}
-use Rattle.demands.proofs.Running.Runs.{run-refused, run-checked, ran-works}
+use Rattle.demands.proofs.Running.Runs.{run_refused, run-checked, ran-works}
 use Rattle.demands.proofs.Running.StopNumbers.{all-good}
 use Rattle.demands.proofs.Running.Singly.{passes, good-ran}
 
@@ -207,11 +207,11 @@ has-passed profile L F bytes allowance T z = go (dec_le (check profile L F) 0)
   where
     go : Dec (check profile L F ≤ 0) → check profile L F ≡ 0
     go (yes h) = omega arith
-    go (no h) = sym (ap (λ (U : Worked). U.reply.stop) (run-refused profile L F bytes allowance T (λ e. absurd (omega arith)))) ∙ z
+    go (no h) = sym (ap (λ (U : Worked). U.reply.stop) (run_refused profile L F bytes allowance T (λ e. absurd (omega arith)))) ∙ z
 
 -- a run over first and rest, where the run over the first ends with 0
-pub run-in-two : RunInTwo
-run-in-two profile L F first rest allowance T z =
+pub run_in_two : RunInTwo
+run_in_two profile L F first rest allowance T z =
     let c : check profile L F ≡ 0 = has-passed profile L F first allowance T z in
     rw (run-checked profile L F (first ++ rest) allowance T c, run-checked profile L F first allowance T c)
     (both profile L F first rest allowance T c (sym (ap (λ (U : Worked). U.reply.stop) (run-checked profile L F first allowance T c)) ∙ z))

@@ -23,9 +23,9 @@ use Rattle.demands.proofs.Running.Records.{sizes, byte-of-record, record-of-byte
 use Rattle.demands.proofs.Running.RequestsWorked.{Works, works, tallies-worked, tallies-place}
 
 -- refused by its check
-pub run-refused : RunRefused
+pub run_refused : RunRefused
 unfolding run
-run-refused profile L F bytes allowance T n = rw (ne_eqb (check profile L F) 0 n)
+run_refused profile L F bytes allowance T n = rw (ne_eqb (check profile L F) 0 n)
 
 -- or it works the records
 pub run-checked : (profile : ℕ) (L : Lent) (F : Forecast) (bytes : List ℕ) (allowance : ℕ) (T : Totals) → check profile L F ≡ 0
@@ -76,8 +76,8 @@ module _ (S : Shares) (allowance : ℕ) (bytes : List ℕ) (R : Room) (c : ℕ �
       ∙ ap (λ (rs : List Record). work S allowance rs R c nothing) (records-take done bytes ran-works.good) ∙ ran-works.again
 
 -- a run that stops leaves all as the run over the bytes before its place, which ends with 0
-pub run-stops : RunStops
-run-stops profile L F bytes allowance T e =
+pub run_stops : RunStops
+run_stops profile L F bytes allowance T e =
     let r : Ran = ran (shares_of profile L.slots) allowance bytes (room_of L.slots F) (cards_of L) in
     rw (
       run-checked profile L F bytes allowance T e,

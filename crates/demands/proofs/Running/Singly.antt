@@ -205,20 +205,20 @@ module _ (profile : ℕ) (L : Lent) (F : Forecast) (bytes : List ℕ) (allowance
   }
 
 -- a run keeps a valid list valid
-pub run-keeps : RunKeeps
-run-keeps profile L F bytes allowance T e = rw (run-checked profile L F bytes allowance T e) (keeps profile L F bytes allowance T e)
+pub run_keeps : RunKeeps
+run_keeps profile L F bytes allowance T e = rw (run-checked profile L F bytes allowance T e) (keeps profile L F bytes allowance T e)
 
 -- the stop number is as the rows tell, and the moves are within the allowance
-pub run-tells : RunTells
-run-tells profile L F bytes allowance T e =
+pub run_tells : RunTells
+run_tells profile L F bytes allowance T e =
     let S : Shares = shares_of profile L.slots in
     let R : Room = room_of L.slots F in
     rw (run-checked profile L F bytes allowance T e)
     (tells profile L F bytes allowance T e, ran_ends S allowance bytes R (cards_of L), (ran-works S allowance bytes R (cards_of L)).within)
 
 -- a run does what its records do singly
-pub run-is-singly : RunIsSingly
-run-is-singly profile L F bytes allowance T f e rs is =
+pub run_is_singly : RunIsSingly
+run_is_singly profile L F bytes allowance T f e rs is =
     let S : Shares = shares_of profile L.slots in
     let R : Room = room_of L.slots F in
     let d : rs ≡ take (done S allowance bytes R (cards_of L)) (records_of bytes) =

@@ -48,9 +48,9 @@ smallest S s ss k f h = record {
   first = λ j p q w. T_not (within S j (count j s ss)) (f.2 j p q) (limits→within S j (count j s ss) w);
 }
 
-pub climb-is : ClimbIs
+pub climb_is : ClimbIs
 unfolding chosen
-climb-is S s ss = (
+climb_is S s ss = (
   λ k. (λ e. there k (subst (Firsts ok 1 S.height) e (firsts ok 1 S.height)), λ m. first-is ok 1 S.height k (back k m) (omega (arith, m.to))),
   (
     λ e j p q w. T_not (ok j) (subst (Firsts ok 1 S.height) e (firsts ok 1 S.height) j p (omega arith)) (limits→within S j (count j s ss) w),
@@ -91,11 +91,11 @@ module _ (S : Shares) (L : Lawful S) (c : ℕ → ℕ) (mono : (l : ℕ) → c l
       go (some k) h = (k, refl, h.0, omega arith)
 
 -- the same of the segments: ss has the new key in segment s, which was full
-pub insert-finds : (S : Shares) → Lawful S → (s : ℕ) (ss : Segments) → length ss ≡ 2 ^ S.height → s < 2 ^ S.height
+pub insert_finds : (S : Shares) → Lawful S → (s : ℕ) (ss : Segments) → length ss ≡ 2 ^ S.height → s < 2 ^ S.height
     → S.high 0 < length (get_or ss s []) → length (keys ss) ≤ capacity S
     → (k : ℕ) × (chosen S s ss ≡ some k) × (1 ≤ k) × (k ≤ S.height) × Limits S k k (count k s ss)
 unfolding chosen
-insert-finds S L s ss e hs full room = (f.0, f.1, f.2.0, f.3, within→limits S f.0 _ f.2.1)
+insert_finds S L s ss e hs full room = (f.0, f.1, f.2.0, f.3, within→limits S f.0 _ f.2.1)
   where
     c : ℕ → ℕ
     c l = count l s ss

@@ -114,8 +114,8 @@ module _ (S : Shares) (l f : ℕ) (ws : List ℕ) where
         c : Least (six S l f ws) first-i (last-i - first-i) (least (six S l f ws) first-i (last-i - first-i))
         c = least-least (six S l f ws) first-i (last-i - first-i) (λ j a b. mul-pos (gaps j ((tried j p q r).0 (a, b))).0 (gaps j ((tried j p q r).0 (a, b))).1)
 
-pub split-is : SplitIs
-split-is S L l f ws h k i = (
+pub split_is : SplitIs
+split_is S L l f ws h k i = (
   λ p. split_one S l f ws i (left_share S l f ws) p (split S l f ws L h k),
   λ e. subst (Split S l f ws) (sym e) (split S l f ws L h k),
 )

@@ -29,7 +29,7 @@ use Rattle.rules.specs.Placing.{Room, home, put_in, insert_level, delete_level, 
 use Rattle.rules.specs.Readings.{Limits, Proper, InsertFinds}
 use Rattle.demands.specs.Demand3.{SizesKept}
 use Rattle.demands.proofs.Sharing.SharingOut.{inside-share_out, length-share_out}
-use Rattle.demands.proofs.Sharing.Climb.{within→limits, insert-finds, climb-is}
+use Rattle.demands.proofs.Sharing.Climb.{within→limits, insert_finds, climb_is}
 use Rattle.demands.proofs.Sweeping.Settled.{Asked}
 use Rattle.demands.proofs.Requests.Accepted.{insert-accepted, delete-accepted, bad-refused}
 use Rattle.demands.proofs.Requests.Moved.{asked-insert, asked-delete, keys-insert, keys-delete}
@@ -83,7 +83,7 @@ full-finds S L y ss n f e c = go (ltb (length (get_or ss (home y ss) [])) (S.hig
     go true p q r = omega (arith, p tt)
     go false p q r =
         absurd (none-ne-some _ (sym r ∙
-        (insert-finds S L (home y ss) (put_in y ss) (length-set ss _ _ ∙ n) (omega arith) (rw (get_or-set_same ss (home y ss) (put y (get_or ss (home y ss) [])) [] f) (omega (arith, q tt))) c).1))
+        (insert_finds S L (home y ss) (put_in y ss) (length-set ss _ _ ∙ n) (omega arith) (rw (get_or-set_same ss (home y ss) (put y (get_or ss (home y ss) [])) [] f) (omega (arith, q tt))) c).1))
 
 module _ (S : Shares) (L : Lawful S) (m : ℕ) (h₀ : S.high 0 ≤ m) (y : ℕ) (R : Room) (K : Proper S R.segments) (z : Sized m R.segments) where
   sized-insert : T (not (member y (keys R.segments))) → length (keys R.segments) < capacity S
@@ -136,16 +136,16 @@ module _ (S : Shares) (L : Lawful S) (m : ℕ) (h₀ : S.high 0 ≤ m) (y : ℕ)
       e : suc (length (cut y (get_or R.segments (segment_of R.segments y) []))) ≡ length (get_or R.segments (segment_of R.segments y) [])
       e = length_cut y (get_or R.segments (segment_of R.segments y) []) (rising_part R.segments (segment_of R.segments y) f K.listed.rising) (segment-mem R.segments y (K.listed.live y i) i).1
 
-pub sizes-kept : SizesKept
-sizes-kept S L (Insert y) R K t m h z c = rw (insert-accepted S y R t).is (sized-insert S L m h y R K z (insert-accepted S y R t).fresh (insert-accepted S y R t).room)
-sizes-kept S L (Delete y) R K t m h z c =
+pub sizes_kept : SizesKept
+sizes_kept S L (Insert y) R K t m h z c = rw (insert-accepted S y R t).is (sized-insert S L m h y R K z (insert-accepted S y R t).fresh (insert-accepted S y R t).room)
+sizes_kept S L (Delete y) R K t m h z c =
     rw (delete-accepted S y R t).is (sized-delete S L m h y R K z (member→mem y (keys R.segments) (delete-accepted S y R t).present) c)
-sizes-kept S L Bad R K t m h z c = absurd (bad-refused S R t)
+sizes_kept S L Bad R K t m h z c = absurd (bad-refused S R t)
 
 -- AN INSERT FINDS A WINDOW
 pub insert-always-finds : InsertFinds
 unfolding insert_level
-insert-always-finds S L y ss K p n c f = rw (le-ltb (length (get_or ss (home y ss) [])) (S.high 0) f) (k.0, k.1, ((climb-is S (home y ss) (put_in y ss)).0 k.0).0 k.1)
+insert-always-finds S L y ss K p n c f = rw (le-ltb (length (get_or ss (home y ss) [])) (S.high 0) f) (k.0, k.1, ((climb_is S (home y ss) (put_in y ss)).0 k.0).0 k.1)
   where
     b : (home y ss < length ss) × All (λ k. k < y) (keys (take (home y ss) ss)) × All (λ k. y < k) (keys (drop (suc (home y ss)) ss))
     b = home-between y ss K.listed (omega (arith, K.size, pow_pos S.height)) n
@@ -159,4 +159,4 @@ insert-always-finds S L y ss K p n c f = rw (le-ltb (length (get_or ss (home y s
     few = rw (keys-put y ss (home y ss) b) (omega (arith, length-put y (keys ss) n))
 
     k : (k : ℕ) × (chosen S (home y ss) (put_in y ss) ≡ some k) × (1 ≤ k) × (k ≤ S.height) × Limits S k k (count k (home y ss) (put_in y ss))
-    k = insert-finds S L (home y ss) (put_in y ss) (length-set ss _ _ ∙ K.size) (omega (arith, b.0, K.size)) more few
+    k = insert_finds S L (home y ss) (put_in y ss) (length-set ss _ _ ∙ K.size) (omega (arith, b.0, K.size)) more few

@@ -1,12 +1,10 @@
 -- `faults::fault_of` meets its contract: no cell below i has a fault.
-use Prim.Native.Nat.{ℕ, ◌≤◌, ◌-◌}
+use Prim.Native.Nat.{ℕ, ◌≤◌}
 use mathlib.Core.Path.{sym, ap, ◌∙◌}
-use mathlib.Core.Bool.{true}
 use mathlib.Core.Logic.{inl, inr}
 use native.Mathlib.Nat.{eq-or-lt_of_le}
 use native.Mathlib.Omega.{arith}
 use borrow.Author.Rules.{rules}
-use borrow.Author.Tests.{not-true, not-false}
 use Rattle.forecast.specs.Tidy.{Roomy}
 use Rattle.forecast.specs.Faults.{fault_at, is_sound}
 use Rattle.forecast.proofs.Stepping.{roomy-12, roomy-cell}

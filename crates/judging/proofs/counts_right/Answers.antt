@@ -1,5 +1,4 @@
 -- `counts_right` tells whether the first n entries are these counts. Invariant: those below k are.
-use Prim.Native.Nat.{◌-◌}
 use native.Mathlib.Omega.{arith}
 use borrow.Author.Count.{below_more}
 use Rattle.judging.proofs.counts_right.Goals as goal

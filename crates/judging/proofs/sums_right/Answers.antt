@@ -1,6 +1,5 @@
 -- `sums_right` tells whether each entry above level 0 is the sum of its halves. Invariant: those below n + i are, so that the next two
 -- halves have at most all keys between them.
-use Prim.Native.Nat.{◌-◌}
 use native.Mathlib.Omega.{arith}
 use borrow.Author.Count.{below_more}
 use Rattle.judging.proofs.Judged.{front-start, front-two, front-more}

@@ -7,8 +7,6 @@ use mathlib.Core.List.{[]}
 use Prim.Native.Nat.{ℕ, ◌-◌, ◌/◌, ◌≤◌}
 use native.Mathlib.Nat.{pow-succ'}
 use native.Mathlib.Omega.{arith}
-use borrow.Author.Rules.{rules}
-use borrow.Author.Tests.{not-true, not-false}
 use lib.ListN.{length}
 use Rattle.slots.specs.Segments.{height_of}
 use Rattle.slots.proofs.HeightLaws.{height-cases}
@@ -24,7 +22,7 @@ use Rattle.answers.specs.declared.MakeAnswer.{MakeAnswer}
 use Rattle.answers.specs.declared.MakeReply.{MakeReply}
 use Rattle.answers.specs.Answers.{make_number}
 use Rattle.answers.specs.Admits.{MakeAdmits}
-use Rattle.answers.proofs.Replies.{make-unknown, make-refused, make-wrong-cards, make-wrong-table, make-done}
+use Rattle.answers.proofs.Replies.{make-unknown, make_refused, make-wrong-cards, make-wrong-table, make-done}
 use Rattle.making.proofs.make.Goals as goal
 use Rattle.making.proofs.make.Goals.{Else-height_of-eq0, Else-not-is_profile}
 
@@ -34,7 +32,7 @@ admits : (profile : ℕ) (L : Lent) (a : MakeAnswer) (r : MakeReply) (left : Len
 admits profile L a r left q e = record {
   answer = ap (λ (m : MakeReply). make_number m.answer) q ∙ sym (ap (λ (m : Made). m.number) e);
   forecast = ap (λ (m : MakeReply). m.forecast) q ∙ sym (ap (λ (m : Made). m.forecast) e);
-  lent-left = sym (ap (λ (m : Made). m.lent) e);
+  lent_left = sym (ap (λ (m : Made). m.lent) e);
 }
 
 -- the entries of its table by the slots of a list
@@ -53,7 +51,7 @@ known : (c : Else-not-is_profile) → is_profile c.args.profile ≡ true
 known c = sym c.is_profile.ensures ∙ c.if-not-is_profile.false
 
 pub returns-then-height_of-eq0 : goal.returns-then-height_of-eq0
-returns-then-height_of-eq0 c = admits _ _ _ _ _ c.told-then-height_of-eq0.ensures (make-refused _ _ (known (goal.at.returns-then-height_of-eq0 c).Else-not-is_profile) (sym c.height_of.ensures.0 ∙ c.if-height_of-eq0.true))
+returns-then-height_of-eq0 c = admits _ _ _ _ _ c.told-then-height_of-eq0.ensures (make_refused _ _ (known (goal.at.returns-then-height_of-eq0 c).Else-not-is_profile) (sym c.height_of.ensures.0 ∙ c.if-height_of-eq0.true))
 
 -- and so is the length
 high : (c : Else-height_of-eq0) → height_of (length c.args.list.now) ≢ 0

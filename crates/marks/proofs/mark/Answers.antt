@@ -1,5 +1,5 @@
 -- `mark` marks the keys that weigh. The loop's invariant: the first `i` cells are marked, with `n` marks, in arrays that keep their length.
-use Rattle.std.proofs.Common.{◌-◌, ◌<◌, ◌≤◌, length, get_or, take, sym, ◌∙◌, subst, arith, length-take, take_all}
+use Rattle.std.proofs.Common.{◌<◌, ◌≤◌, length, get_or, take, sym, ◌∙◌, subst, arith, length-take, take_all}
 use Rattle.lists.proofs.Members.{at_mem}
 use Rattle.cells.specs.Cells.{zero_cell}
 use Rattle.forecast.specs.Cells.{used_cells}

@@ -1,5 +1,5 @@
 -- `put_in` puts a number in front of another. The loop's invariant: the numbers below `i` are those of the result already, and `carry` is the next of them.
-use Rattle.std.proofs.Common.{◌≡◌, suc, ◌+◌, ◌-◌, ◌≤◌, length, take, drop, sym, refl, ◌∙◌, add-one, arith, length-set, length-take-le, take_at}
+use Rattle.std.proofs.Common.{◌≡◌, suc, ◌+◌, ◌≤◌, length, take, drop, sym, refl, ◌∙◌, add-one, arith, length-set, length-take-le, take_at}
 use Rattle.lists.specs.Lists.{insert_at}
 use Rattle.lists.proofs.Overwritten.{written_from, written-more, written-ahead}
 use Rattle.lists.proofs.Inserted.{take-before, take_inserted, length_inserted, at_place, past-place}

@@ -20,7 +20,7 @@ returns-in-Refused c =
     let look = c.look_lent-listing in
     let some = refused-some look.result.verdict _ c.in-Refused.is in
     record {
-      refused = λ n. record { tally = c.none.ensures; stop = look.ensures.number; last = look.ensures.number; forecast = refl; lent-left = refl };
+      refused = λ n. record { tally = c.none.ensures; stop = look.ensures.number; last = look.ensures.number; forecast = refl; lent_left = refl };
       ended = λ e. absurd (some (look.ensures.number ∙ e));
     }
 

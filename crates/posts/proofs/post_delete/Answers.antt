@@ -12,6 +12,6 @@ returns c =
     let tell = c.tell_two-number in
     record {
       number = tell.ensures.number ∙ ap (λ (t : Told). t.number) told.ensures;
-      forecast-left = c.hand_back.ensures;
-      reply-left = tell.ensures.words ∙ ap (λ (t : Told). over (two_words t) reply) told.ensures;
+      forecast_left = c.hand_back.ensures;
+      reply_left = tell.ensures.words ∙ ap (λ (t : Told). over (two_words t) reply) told.ensures;
     }

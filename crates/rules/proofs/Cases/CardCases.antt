@@ -107,6 +107,6 @@ unfolding run ran work records_of record_of check then_forecast then_table check
 run-keeps-cards = (refl, refl)
 
 -- within 2 moves it stops before the third, which is not counted; the refused one is
-pub run-stops : (ran-within 2).reply ≡ record { tally = record { worked = 2; refused = 1; moves = 2; sweeps = 0; place = 30 }; stop = 10 }
+pub run_stops : (ran-within 2).reply ≡ record { tally = record { worked = 2; refused = 1; moves = 2; sweeps = 0; place = 30 }; stop = 10 }
 unfolding run ran work records_of record_of check then_forecast then_table check_cards card_at cards_beside table_of height_of order_of fault_of fault_at cells padded forecast_of segments_of segment_of predecessor raised tailed noted settled insert_level insert_key outcome render
-run-stops = refl
+run_stops = refl

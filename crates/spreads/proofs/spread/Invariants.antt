@@ -1,7 +1,7 @@
 -- spread meets its contract. Invariant: the segments from s on are laid out, the keys before them are still packed, and each slot has its card.
 use mathlib.Core.Path.{◌≡◌}
 use mathlib.Core.List.{map}
-use Prim.Native.Nat.{ℕ, ◌-◌, ◌≤◌}
+use Prim.Native.Nat.{ℕ, ◌≤◌}
 use lib.ListN.{length, take}
 use Rattle.lists.specs.Lists.{total}
 use Rattle.spreads.proofs.Laying.{Laid}

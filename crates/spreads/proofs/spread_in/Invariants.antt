@@ -1,6 +1,6 @@
 -- spread_in meets its contract. Invariant: the segments from s on are laid out, the keys before them are still packed, and each slot has its card.
 use mathlib.Core.Path.{◌≡◌}
-use Prim.Native.Nat.{ℕ, ◌-◌, ◌≤◌}
+use Prim.Native.Nat.{ℕ, ◌≤◌}
 use mathlib.Core.List.{map}
 use lib.ListN.{length, take}
 use Rattle.lists.specs.Lists.{total, insert_at}

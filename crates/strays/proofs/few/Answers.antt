@@ -1,6 +1,6 @@
 -- `few` gathers one card at a time. The loop's invariant: `all` is `l` with the cards from `c` up to `i`.
 use mathlib.Core.Path.{◌≡◌, subst}
-use Prim.Native.Nat.{ℕ, ◌+◌, ◌-◌}
+use Prim.Native.Nat.{ℕ, ◌+◌}
 use native.Mathlib.Omega.{arith}
 use Rattle.strays.specs.Blanks.{Gathers}
 use Rattle.strays.proofs.Gathered.{gathers-none, gathers-one, gathers-after}

@@ -1,5 +1,5 @@
 -- `words::read_forecast` meets its contract: the rows below i are those of the words.
-use Prim.Native.Nat.{◌-◌, ◌≤◌}
+use Prim.Native.Nat.{◌≤◌}
 use mathlib.Core.Path.{refl, sym, ◌∙◌}
 use mathlib.Core.List.{map-map}
 use native.Mathlib.Omega.{arith}

@@ -1,5 +1,4 @@
 -- `words::write_forecast` meets its contract: the words before cell i are written.
-use Prim.Native.Nat.{◌-◌}
 use native.Mathlib.Omega.{arith}
 use borrow.Author.Rules.{rules}
 use lib.ListN.{length-set}

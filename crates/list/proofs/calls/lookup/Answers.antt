@@ -10,13 +10,13 @@ use Rattle.rules.specs.Checks.{check_read}
 use Rattle.rules.specs.Looking.{not_found}
 use Rattle.rules.specs.Calls.{lookup}
 use Rattle.checks.proofs.Numbers.{refused-some}
-use Rattle.demands.proofs.Refusals.CheckCases.{lookup-refused}
+use Rattle.demands.proofs.Refusals.CheckCases.{lookup_refused}
 use Rattle.list.proofs.calls.lookup.Goals as goal
 use Rattle.list.proofs.calls.lookup.Goals.{In_default}
 
 -- where the check refuses, a lookup tells the number
 refused-told : (profile : ℕ) (L : Lent) (y : ℕ) (v : Verdict) (x : Refusal) → verdict_number v ≡ check_read profile L → v ≡ Refused x → not_found (refusal_number x) ≡ lookup profile L y
-refused-told profile L y v x z e = sym (lookup-refused profile L y (λ n. refused-some v x e (z ∙ n)) ∙ ap not_found (sym z ∙ ap verdict_number e))
+refused-told profile L y v x z e = sym (lookup_refused profile L y (λ n. refused-some v x e (z ∙ n)) ∙ ap not_found (sym z ∙ ap verdict_number e))
 
 pub returns-in-Refused : goal.returns-in-Refused
 returns-in-Refused c = record { answer = refused-told _ _ _ _ _ c.look_read-verdict.ensures.number c.in-Refused.is }

@@ -12,14 +12,14 @@ lent s = lend s.args.list.now s.args.cards.now s.args.table.now
 pub returns-in-Refused : goal.returns-in-Refused
 returns-in-Refused c =
     let ask = c.ask-reply in
-    record { answer = answer-refused _ _ _ (lent (goal.at.returns-in-Refused c).Start) _ ask.result ask.ensures.answer _ c.in-Refused.is; forecast = ask.ensures.forecast; lent-left = ask.ensures.lent-left }
+    record { answer = answer-refused _ _ _ (lent (goal.at.returns-in-Refused c).Start) _ ask.result ask.ensures.answer _ c.in-Refused.is; forecast = ask.ensures.forecast; lent_left = ask.ensures.lent_left }
 
 pub returns-then-reply : goal.returns-then-reply
 returns-then-reply c =
     let ask = c.ask-reply in
-    record { answer = answer-done _ _ _ (lent (goal.at.returns-then-reply c).Start) _ ask.result ask.ensures.answer true c.in_default.is c.if-reply.true; forecast = ask.ensures.forecast; lent-left = ask.ensures.lent-left }
+    record { answer = answer-done _ _ _ (lent (goal.at.returns-then-reply c).Start) _ ask.result ask.ensures.answer true c.in_default.is c.if-reply.true; forecast = ask.ensures.forecast; lent_left = ask.ensures.lent_left }
 
 pub returns : goal.returns
 returns c =
     let ask = c.ask-reply in
-    record { answer = answer-done _ _ _ (lent (goal.at.returns c).Start) _ ask.result ask.ensures.answer false c.in_default.is c.if-reply.false; forecast = ask.ensures.forecast; lent-left = ask.ensures.lent-left }
+    record { answer = answer-done _ _ _ (lent (goal.at.returns c).Start) _ ask.result ask.ensures.answer false c.in_default.is c.if-reply.false; forecast = ask.ensures.forecast; lent_left = ask.ensures.lent_left }

@@ -11,9 +11,9 @@ lent s = lend s.args.list.now s.args.cards.now s.args.table.now
 pub returns-in-Refused : goal.returns-in-Refused
 returns-in-Refused c =
     let ask = c.ask-reply in
-    record { answer = answer-refused _ _ _ (lent (goal.at.returns-in-Refused c).Start) _ ask.result ask.ensures.answer _ c.in-Refused.is; forecast = ask.ensures.forecast; lent-left = ask.ensures.lent-left }
+    record { answer = answer-refused _ _ _ (lent (goal.at.returns-in-Refused c).Start) _ ask.result ask.ensures.answer _ c.in-Refused.is; forecast = ask.ensures.forecast; lent_left = ask.ensures.lent_left }
 
 pub returns : goal.returns
 returns c =
     let ask = c.ask-reply in
-    record { answer = insert-done _ _ _ (lent (goal.at.returns c).Start) _ ask.result ask.ensures.answer c.in_default.is; forecast = ask.ensures.forecast; lent-left = ask.ensures.lent-left }
+    record { answer = insert-done _ _ _ (lent (goal.at.returns c).Start) _ ask.result ask.ensures.answer c.in_default.is; forecast = ask.ensures.forecast; lent_left = ask.ensures.lent_left }

@@ -1,7 +1,6 @@
 -- `reading::gaps::all_gaps` meets its contract. The loop's invariant: the slots from `j` up to `e` are gaps.
 use Prim.Native.Nat.{◌-◌}
 use native.Mathlib.Omega.{arith}
-use borrow.Author.Tests.{not-false}
 use Rattle.reading.proofs.Eights.{bare-join, bare-all, eights-bare}
 use Rattle.reading.proofs.gaps.all_gaps.Goals as goal
 

@@ -1,5 +1,5 @@
 -- `reading::gaps::all_gaps` meets its contract. The loop's invariant: the slots from `j` up to `e` are gaps.
-use Prim.Native.Nat.{◌-◌, ◌≤◌}
+use Prim.Native.Nat.{◌≤◌}
 use Rattle.reading.proofs.Eights.{Bare}
 use Rattle.reading.proofs.gaps.all_gaps.Given as goal
 

@@ -1,5 +1,4 @@
 -- `reading::gaps::gaps_rest` meets its contract. The loop's invariant: the slots from `a` up to `i` are gaps.
-use Prim.Native.Nat.{◌-◌}
 use native.Mathlib.Omega.{arith}
 use borrow.Author.Count.{below_more}
 use Rattle.reading.proofs.gaps.gaps_rest.Goals as goal

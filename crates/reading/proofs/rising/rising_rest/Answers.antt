@@ -1,7 +1,6 @@
 -- `reading::rising::rising_rest` meets its contract.
 -- The loop's invariant: from `a` up to `i` each slot is above the one before it, and `top` is the slot before `i`, or `last` at `a`.
 use mathlib.Core.Path.{refl, sym}
-use Prim.Native.Nat.{◌-◌}
 use native.Mathlib.Omega.{arith}
 use borrow.Author.Count.{below_more}
 use Rattle.reading.proofs.Stretched.{before-first, before-next}

@@ -1,6 +1,6 @@
 -- `reading::rising::rising_whole` meets its contract.
 -- The loop's invariant: from `a` up to `i` each slot is above the one before it, and `top` is the slot before `i`, or `last` at `a`.
-use Prim.Native.Nat.{ℕ, ◌+◌, ◌-◌}
+use Prim.Native.Nat.{ℕ, ◌+◌}
 use mathlib.Core.Path.{◌≡◌, refl, sym, ap, ◌∙◌, subst}
 use native.Mathlib.Omega.{arith}
 use Rattle.reading.specs.Stretches.{before, Rises}

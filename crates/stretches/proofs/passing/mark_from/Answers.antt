@@ -1,5 +1,4 @@
 -- `mark_from` finds the first place that is at a place or past it. The loop's invariant: none of the first `k` is that.
-use Prim.Native.Nat.{◌-◌}
 use mathlib.Core.Path.{◌≡◌, ◌∙◌, sym, ap}
 use native.Mathlib.Omega.{arith}
 use borrow.Author.Tests.{le-leb, lt-leb}

@@ -1,6 +1,6 @@
 -- `clear` empties a table. Invariant: the entries before i are 0.
 use mathlib.Core.Path.{◌≡◌, ap, ◌∙◌}
-use Prim.Native.Nat.{ℕ, ◌-◌}
+use Prim.Native.Nat.{ℕ}
 use native.Mathlib.Omega.{arith}
 use lib.ListN.{length, length-set}
 use Rattle.gaps.specs.Gaps.{cleared}

@@ -5,7 +5,7 @@ use mathlib.Core.List.{List, map, map-map}
 use native.Mathlib.Omega.{arith}
 use lib.ListN.{length, get_or, set, length-set, length-map}
 use Rattle.lists.specs.Lists.{padded}
-use Rattle.lists.proofs.Maps.{get_d_map}
+use Rattle.std.proofs.lemmas.List.{get_or-map}
 use Rattle.lists.proofs.Members.{at_mem}
 use Rattle.lists.proofs.Overwritten.{written, written-more, written-ahead, written-done}
 use Rattle.slots.specs.Segments.{Segments}
@@ -67,7 +67,7 @@ module _ (F : Forecast) (t : Tidy F) where
     aim-more i h G m e s q =
         let r : s ≡ get_or (row (λ c. c.segment) new) i 0 =
         q ∙ ap place (ap (λ (l : List ℕ). get_or l i 0) m ∙ marker-is F t i)
-        ∙ sym (row_at (λ c. c.segment) new refl i ∙ ap (λ (c : Cell). c.segment) (get_d_map (aimed place) us i zero_cell zero_cell (omega (arith, cells-used F t)))) in
+        ∙ sym (row_at (λ c. c.segment) new refl i ∙ ap (λ (c : Cell). c.segment) (get_or-map (aimed place) us i zero_cell zero_cell (omega (arith, cells-used F t)))) in
         ap (set G.segments i) r ∙ ap (λ (l : List ℕ). set l i (get_or (row (λ c. c.segment) new) i 0)) e
         ∙ written-more (row (λ c. c.segment) new) (row (λ c. c.segment) us) i 0
         (omega (arith, row-long (λ c. c.segment) new new-few, few, cells-used F t)) (omega (arith, row-long (λ c. c.segment) us few, few, cells-used F t))

@@ -84,7 +84,7 @@ fn look_over_both(
     }
     let shape = listing.shape;
     let fault = faults::fault_of(forecast, shape.cells, list);
-    if !faults::is_sound(fault) {
+    if let Err(_) = fault {
         return refuse(Refusal::WrongForecast);
     }
     listing

@@ -9,6 +9,7 @@ use borrow.Author.Tests.{eq-eqb, ne_eqb}
 use lib.Dec.{T, eqb}
 use lib.ListN.{length, take, length-map}
 use lib.Seq.{length-take-le}
+use Rattle.std.specs.Prelude.{Ok, Err}
 use Rattle.lists.specs.Lists.{any_of}
 use Rattle.lists.specs.Search.{place_by}
 use Rattle.lists.proofs.Tests.{tested, is_true, is_false}
@@ -27,7 +28,7 @@ use Rattle.cells.specs.declared.Cell.{Cell}
 use Rattle.cells.specs.Cells.{zero_cell, marks}
 use Rattle.cells.proofs.Laws.{place-marker}
 use Rattle.forecast.specs.declared.Forecast.{Forecast}
-use Rattle.forecast.specs.declared.Fault.TheVariants.{Sound, NotLive, Misplaced}
+use Rattle.forecast.specs.declared.Fault.TheVariants.{NotLive, Misplaced}
 use Rattle.forecast.specs.Cells.{cells}
 use Rattle.forecast.specs.Tidy.{CellOf}
 use Rattle.forecast.specs.Faults.{marker_fault}
@@ -38,15 +39,15 @@ front-is ss k e = ap (segment_of ss) e ∙ segment-front ss
 
 module _ (ss : Segments) (c : Cell) (i : ℕ) (e : c.marker ≡ 0) where
   -- in segment 0
-  pub front-sound : c.segment ≡ 0 → marker_fault ss c i ≡ Sound
+  pub front-sound : c.segment ≡ 0 → marker_fault ss c i ≡ Ok tt
   front-sound h = rw (eq-eqb c.marker 0 e, front-is ss c.marker e, eq-eqb c.segment 0 h)
 
   -- in another
-  pub front-misplaced : c.segment ≢ 0 → marker_fault ss c i ≡ Misplaced i
+  pub front-misplaced : c.segment ≢ 0 → marker_fault ss c i ≡ Err (Misplaced i)
   front-misplaced h = rw (eq-eqb c.marker 0 e, front-is ss c.marker e, ne_eqb c.segment 0 h)
 
 -- A MARKER THAT STANDS in the segment that its cell names
-pub stands-sound : (ss : Segments) (c : Cell) (i : ℕ) → c.marker ≢ 0 → (slots : List ℕ) → Shows ss slots → Stands slots c.segment c.marker → marker_fault ss c i ≡ Sound
+pub stands-sound : (ss : Segments) (c : Cell) (i : ℕ) → c.marker ≢ 0 → (slots : List ℕ) → Shows ss slots → Stands slots c.segment c.marker → marker_fault ss c i ≡ Ok tt
 stands-sound ss c i n slots sh st =
     let home = stands-home ss slots sh c.segment c.marker n st in
     rw (ne_eqb c.marker 0 n, is_true (member c.marker (keys ss)) (stands_live ss slots sh c.segment c.marker n st), eq-eqb c.segment (segment_of ss c.marker) (sym home))
@@ -58,15 +59,15 @@ module _ (ss : Segments) (c : Cell) (i : ℕ) (n : c.marker ≢ 0) (r : Place) (
   at_home p = let t : T (member c.marker (keys ss)) = rw (← l.present, p) tt in sym (seat-live c.marker ss t) ∙ sym l.segment
 
   -- found where its cell says
-  pub live-sound : r.present ≡ true → c.segment ≡ r.segment → marker_fault ss c i ≡ Sound
+  pub live-sound : r.present ≡ true → c.segment ≡ r.segment → marker_fault ss c i ≡ Ok tt
   live-sound p h = rw (ne_eqb c.marker 0 n, ← l.present, p, at_home p, eq-eqb c.segment r.segment h)
 
   -- found elsewhere
-  pub live-misplaced : r.present ≡ true → c.segment ≢ r.segment → marker_fault ss c i ≡ Misplaced i
+  pub live-misplaced : r.present ≡ true → c.segment ≢ r.segment → marker_fault ss c i ≡ Err (Misplaced i)
   live-misplaced p h = rw (ne_eqb c.marker 0 n, ← l.present, p, at_home p, ne_eqb c.segment r.segment h)
 
   -- not found
-  pub not_live : r.present ≡ false → marker_fault ss c i ≡ NotLive i
+  pub not_live : r.present ≡ false → marker_fault ss c i ≡ Err (NotLive i)
   not_live p = rw (ne_eqb c.marker 0 n, ← l.present, p)
 
 -- WHETHER ONE PASSES, by the place of the first that does

@@ -4,7 +4,7 @@
 ghost use Rattle.std.specs.Prelude.{◌≡◌, ◌≤◌, ◌<◌, length};
 ghost use Rattle.slots.specs.Segments.{Segments};
 ghost use Rattle.slots.specs.Shown.{Shows};
-ghost use Rattle.forecast.specs.Faults.{is_zero, marker_fault, fault_at, is_sound, fault_of};
+ghost use Rattle.forecast.specs.Faults.{is_zero, marker_fault, fault_at, fault_of};
 ghost use Rattle.forecast.specs.Tidy.{CellOf};
 
 use cells::Cell;
@@ -24,91 +24,78 @@ fn is_zero(cell: Cell) -> bool
 }
 
 // What is wrong with cell `i` of a forecast that uses `used` of its cells and has these markers, if anything.
-fn fault_at(cell: Cell, i: usize, used: usize, markers: &[u64; 12], p: usize, list: &[u64]) -> Fault
+fn fault_at(
+    cell: Cell,
+    i: usize,
+    used: usize,
+    markers: &[u64; 12],
+    p: usize,
+    list: &[u64],
+) -> Result<(), Fault>
     requires { (i < 12) × (length markers.now ≡ 12) × (64 ≤ length list.now) }
     ensures { (F : Forecast) (ss : Segments) → CellOf F i cell used markers.now → Shows ss list.now → result ≡ fault_at p ss F i }
 {
     if used <= i {
         if is_zero(cell) {
-            return Fault::Sound;
+            return Ok(());
         }
-        return Fault::NotZero(i);
+        return Err(Fault::NotZero(i));
     }
     if cell.count < 1 {
-        return Fault::Count(i);
+        return Err(Fault::Count(i));
     }
     if p < cell.count {
-        return Fault::Count(i);
+        return Err(Fault::Count(i));
     }
     if rows::first_of(markers, i, cell.marker) < i {
-        return Fault::Repeated(i);
+        return Err(Fault::Repeated(i));
     }
     marker_fault(cell, i, list)
 }
 
 // What is wrong with a used cell's marker or segment, if anything.
-fn marker_fault(cell: Cell, i: usize, list: &[u64]) -> Fault
+fn marker_fault(cell: Cell, i: usize, list: &[u64]) -> Result<(), Fault>
     requires { 64 ≤ length list.now }
     ensures { (ss : Segments) → Shows ss list.now → result ≡ marker_fault ss cell i }
 {
     if cell.marker == 0 {
         if cell.segment == 0 {
-            return Fault::Sound;
+            return Ok(());
         }
-        return Fault::Misplaced(i);
+        return Err(Fault::Misplaced(i));
     }
     // The segment that the cell names first: most often the marker is there.
     if places::finding::stands_in(list, cell.segment, cell.marker) {
-        return Fault::Sound;
+        return Ok(());
     }
     let place = places::finding::locate(list, cell.marker);
     if place.present {
         if cell.segment == place.segment {
-            return Fault::Sound;
+            return Ok(());
         }
-        return Fault::Misplaced(i);
+        return Err(Fault::Misplaced(i));
     }
-    Fault::NotLive(i)
-}
-
-// No fault.
-pub fn is_sound(fault: Fault) -> bool
-    ensures { result ≡ is_sound fault }
-{
-    match fault {
-        Fault::Sound => true,
-        Fault::TooMany => false,
-        Fault::NotZero(_) => false,
-        Fault::Count(_) => false,
-        Fault::Repeated(_) => false,
-        Fault::NotLive(_) => false,
-        Fault::Misplaced(_) => false,
-    }
+    Err(Fault::NotLive(i))
 }
 
 // The first fault from the head. Of any forecast; the list is one that passed refusals 1 to 3.
-pub fn fault_of(forecast: Forecast, p: usize, list: &[u64]) -> Fault
+pub fn fault_of(forecast: Forecast, p: usize, list: &[u64]) -> Result<(), Fault>
     ensures { (ss : Segments) → Shows ss list.now → 64 ≤ length list.now → result ≡ fault_of p ss forecast }
 {
     if list.len() < 64 {
-        return Fault::Sound;
+        return Ok(());
     }
     let used = forecast.used;
     if p < used {
-        return Fault::TooMany;
+        return Err(Fault::TooMany);
     }
-    let mut i: usize = 0;
-    while i < 12 {
+    for i in 0..12 {
         let cell = Cell {
             marker: forecast.markers[i],
             segment: rows::wide(forecast.segments[i]),
             count: rows::wide(forecast.counts[i]),
         };
-        let fault = fault_at(cell, i, used, &forecast.markers, p, list);
-        if !is_sound(fault) {
-            return fault;
-        }
-        i += 1;
+        fault_at(cell, i, used, &forecast.markers, p, list)?;
     }
-    Fault::Sound
+    Ok(())
 }

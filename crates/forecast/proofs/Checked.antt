@@ -6,18 +6,19 @@ use Prim.Native.Nat.{ℕ, ◌≤◌, ◌<◌}
 use native.Mathlib.Omega.{arith}
 use borrow.Author.Tests.{lt-ltb, le-ltb}
 use lib.ListN.{length}
+use Rattle.std.specs.Prelude.{Ok, Err}
 use Rattle.lists.specs.Search.{first}
 use Rattle.lists.proofs.Search.{first-is, first-none}
 use Rattle.slots.specs.Segments.{Segments}
 use Rattle.forecast.specs.declared.Forecast.{Forecast}
-use Rattle.forecast.specs.declared.Fault.TheVariants.{Sound, TooMany}
+use Rattle.forecast.specs.declared.Fault.TheVariants.{TooMany}
 use Rattle.forecast.specs.Cells.{cells}
 use Rattle.forecast.specs.Faults.{fault_at, is_sound, fault_of}
 
 -- THE FIRST FAULT
 module _ (P : ℕ) (ss : Segments) (F : Forecast) where
   -- too many cells are used
-  pub fault-many : P < F.used → fault_of P ss F ≡ TooMany
+  pub fault-many : P < F.used → fault_of P ss F ≡ Err TooMany
   unfolding fault_of
   fault-many h = rw (lt-ltb P F.used h)
 
@@ -30,7 +31,7 @@ module _ (P : ℕ) (ss : Segments) (F : Forecast) where
       rw (le-ltb P F.used u, f)
 
   -- else none
-  pub fault-none : F.used ≤ P → ((j : ℕ) → j < length (cells F) → is_sound (fault_at P ss F j) ≡ true) → fault_of P ss F ≡ Sound
+  pub fault-none : F.used ≤ P → ((j : ℕ) → j < length (cells F) → is_sound (fault_at P ss F j) ≡ true) → fault_of P ss F ≡ Ok tt
   unfolding fault_of
   fault-none u all =
       let f : first (λ i. not (is_sound (fault_at P ss F i))) 0 (length (cells F)) ≡ none =

@@ -11,6 +11,7 @@ use lib.Dec.{T, T_not, not_T, ltb, ltb→lt, nltb→le}
 use lib.ListN.{length, get_or, length-take, get_or-eq_default}
 use lib.Seq.{get_or-take, length-take-le, ext_get_or}
 use Rattle.std.proofs.Common.{if◌then◌else◌}
+use Rattle.std.specs.Prelude.{Result, Ok, Err, ⊤}
 use Rattle.lists.specs.Lists.{All, padded}
 use Rattle.lists.specs.Search.{first}
 use Rattle.lists.proofs.Tests.{double-not}
@@ -24,7 +25,7 @@ use Rattle.cells.specs.Cells.{zero_cell}
 use Rattle.cells.proofs.Ruled.{marker_at, Counted, Ruled, Placed}
 use Rattle.forecast.specs.declared.Forecast.{Forecast}
 use Rattle.forecast.specs.declared.Fault.{Fault}
-use Rattle.forecast.specs.declared.Fault.TheVariants.{Sound, TooMany, NotZero, Count, Repeated, NotLive, Misplaced}
+use Rattle.forecast.specs.declared.Fault.TheVariants.{TooMany}
 use Rattle.forecast.specs.Cells.{cells, used_cells, forecast_of}
 use Rattle.forecast.specs.Faults.{fault_at, is_sound, fault_of}
 use Rattle.forecast.proofs.Laws.{used-forecast_of, length-forecast_of, forecast_of-used, forecast_of-cells}
@@ -38,23 +39,13 @@ module _ (P : ℕ) (ss : Segments) (F : Forecast) where
     few : F.used ≤ P
     fine : (i : ℕ) → i < length (cells F) → Fine P ss F i
 
-  fine-at : (i : ℕ) (f : Fault) → T (is_sound f) → Says P ss F i f → Fine P ss F i
-  fine-at i Sound t s = s
-  fine-at i TooMany t s = absurd t
-  fine-at i (NotZero k) t s = absurd t
-  fine-at i (Count k) t s = absurd t
-  fine-at i (Repeated k) t s = absurd t
-  fine-at i (NotLive k) t s = absurd t
-  fine-at i (Misplaced k) t s = absurd t
+  fine-at : (i : ℕ) (r : Result ⊤ Fault) → T (is_sound r) → Says P ss F i r → Fine P ss F i
+  fine-at i (Ok x) t s = s
+  fine-at i (Err f) t s = absurd t
 
-  bad-at : (i : ℕ) (f : Fault) → T (not (is_sound f)) → Says P ss F i f → BadBy P ss F
-  bad-at i Sound t s = absurd t
-  bad-at i TooMany t s = s
-  bad-at i (NotZero k) t s = s
-  bad-at i (Count k) t s = s
-  bad-at i (Repeated k) t s = s
-  bad-at i (NotLive k) t s = s
-  bad-at i (Misplaced k) t s = s
+  bad-at : (i : ℕ) (r : Result ⊤ Fault) → T (not (is_sound r)) → Says P ss F i r → BadBy P ss F
+  bad-at i (Ok x) t s = absurd t
+  bad-at i (Err f) t s = s
 
   -- the first fault: there is none and all is fine, or there is one and something is bad
   read_all : (T (is_sound (fault_of P ss F)) × AllFine) ⊎ (T (not (is_sound (fault_of P ss F))) × BadBy P ss F)
@@ -65,8 +56,8 @@ module _ (P : ℕ) (ss : Segments) (F : Forecast) where
       bad i = not (is_sound (fault_at P ss F i))
 
       go : (b : Bool) → (T b → P < F.used) → (T (not b) → F.used ≤ P) → (r : Option ℕ) → Firsts bad 0 (length (cells F)) r
-          → (T (is_sound (if b then TooMany else elim r [ none ↦ Sound | some i ↦ fault_at P ss F i ])) × AllFine)
-          ⊎ (T (not (is_sound (if b then TooMany else elim r [ none ↦ Sound | some i ↦ fault_at P ss F i ]))) × BadBy P ss F)
+          → (T (is_sound (if b then Err TooMany else elim r [ none ↦ Ok tt | some i ↦ fault_at P ss F i ])) × AllFine)
+          ⊎ (T (not (is_sound (if b then Err TooMany else elim r [ none ↦ Ok tt | some i ↦ fault_at P ss F i ]))) × BadBy P ss F)
       go true p q r f = inr (tt, too_many (p tt))
       go false p q none f = inl (tt, record { few = q tt; fine = λ i h. fine-at i (fault_at P ss F i) (double-not (is_sound (fault_at P ss F i)) (f i (omega arith) (omega arith))) (read_at P ss F i h) })
       go false p q (some k) f = inr (f.0.1, bad-at k (fault_at P ss F k) f.0.1 (read_at P ss F k (omega arith)))

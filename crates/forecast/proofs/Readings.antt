@@ -9,6 +9,7 @@ use lib.Dec.{T, T_not, leb, ltb, eqb, leb→le, nleb→lt, ltb→lt, nltb→le, 
 use lib.ListN.{length, take, get_or}
 use lib.Seq.{get_or-take, length-take-le}
 use Rattle.std.proofs.Common.{if◌then◌else◌}
+use Rattle.std.specs.Prelude.{Result, Ok, Err, ⊤}
 use Rattle.lists.specs.Lists.{any_of}
 use Rattle.lists.proofs.Tests.{and_left, and_right, or_cases, neither, double-not, neqb→ne}
 use Rattle.lists.proofs.Members.{mem-at, at_mem}
@@ -20,7 +21,7 @@ use Rattle.cells.specs.Cells.{zero_cell, marks}
 use Rattle.cells.proofs.Ruled.{Counted}
 use Rattle.forecast.specs.declared.Forecast.{Forecast}
 use Rattle.forecast.specs.declared.Fault.{Fault}
-use Rattle.forecast.specs.declared.Fault.TheVariants.{Sound, TooMany, NotZero, Count, Repeated, NotLive, Misplaced}
+use Rattle.forecast.specs.declared.Fault.TheVariants.{NotZero, Count, Repeated, NotLive, Misplaced}
 use Rattle.forecast.specs.Cells.{cells}
 use Rattle.forecast.specs.Tidy.{Marker}
 use Rattle.forecast.specs.Faults.{is_zero, fault_at}
@@ -52,15 +53,10 @@ pub record Fine (P : ℕ) (ss : Segments) (F : Forecast) (i : ℕ) : Type 0 wher
   pub used : i < F.used → Good P ss F i
   pub unused : F.used ≤ i → nth F i ≡ zero_cell
 
--- what a fault found at a place says
-abbrev pub Says : ℕ → Segments → Forecast → ℕ → Fault → Type 0
-Says P ss F i Sound = Fine P ss F i
-Says P ss F i TooMany = BadBy P ss F
-Says P ss F i (NotZero k) = BadBy P ss F
-Says P ss F i (Count k) = BadBy P ss F
-Says P ss F i (Repeated k) = BadBy P ss F
-Says P ss F i (NotLive k) = BadBy P ss F
-Says P ss F i (Misplaced k) = BadBy P ss F
+-- what a reading of a place says
+abbrev pub Says : ℕ → Segments → Forecast → ℕ → Result ⊤ Fault → Type 0
+Says P ss F i (Ok x) = Fine P ss F i
+Says P ss F i (Err f) = BadBy P ss F
 
 is-zero : (c : Cell) → T (is_zero c) → c ≡ zero_cell
 is-zero c t =
@@ -139,7 +135,7 @@ module _ (P : ℕ) (ss : Segments) (F : Forecast) (i : ℕ) (h : i < length (cel
       go : (u : Bool) → Tells u (F.used ≤ i) (i < F.used) → (z : Bool) → Tells z (c ≡ zero_cell) (c ≢ zero_cell) → (n : Bool) → Tells n Bad (Counted P c)
           → (r : Bool) → Tells r Bad ((j : ℕ) → j < i → (nth F j).marker ≢ c.marker) → (l : Bool) → Tells l Bad (Marker ss c.marker)
           → (s : Bool) → Tells s (c.segment ≢ segment_of ss c.marker) (c.segment ≡ segment_of ss c.marker)
-          → Says P ss F i (if u then (if z then Sound else NotZero i) else if n then Count i else if r then Repeated i else if l then NotLive i else if s then Misplaced i else Sound)
+          → Says P ss F i (if u then (if z then Ok tt else Err (NotZero i)) else if n then Err (Count i) else if r then Err (Repeated i) else if l then Err (NotLive i) else if s then Err (Misplaced i) else Ok tt)
       go true tu true tz n tn r tr l tl s ts = record { used = λ k. absurd (omega (arith, tu.0 tt)); unused = λ k. tz.0 tt }
       go true tu false tz n tn r tr l tl s ts = not_zero i (tu.0 tt) h (tz.1 tt)
       go false tu z tz true tn r tr l tl s ts = tn.0 tt (tu.1 tt)

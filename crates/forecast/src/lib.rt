@@ -20,10 +20,9 @@ pub struct Forecast {
     pub used: usize,
 }
 
-// What a reading of the cells finds: all are sound, or the first cell that is not, and why.
-#[derive(Clone, Copy)]
+// What is wrong with a forecast: too many cells in use, or the first cell that is bad, and why.
+#[derive(Clone, Copy, PartialEq, Eq, Debug)]
 pub enum Fault {
-    Sound,
     TooMany,
     NotZero(usize),
     Count(usize),

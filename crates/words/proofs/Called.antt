@@ -14,6 +14,7 @@ use Rattle.lists.proofs.Tests.{tested, neqb→ne}
 use Rattle.slots.specs.Segments.{Segments, height_of, segments_of}
 use Rattle.slots.proofs.Render.{length-segments}
 use Rattle.forecast.specs.declared.Forecast.{Forecast}
+use Rattle.std.specs.Prelude.{Result, ⊤}
 use Rattle.forecast.specs.declared.Fault.{Fault}
 use Rattle.forecast.specs.Faults.{fault_of, is_sound}
 use Rattle.forecast.specs.Tidy.{Roomy}
@@ -55,7 +56,7 @@ module _ (profile : ℕ) (slots : List ℕ) (F : Forecast) where
     where
       go : (b : Bool) → (T b → check_list profile slots ≡ 0)
           → ◌≡◌ {A = ℕ} (if not b then n else if not (is_sound (fault_of P ss (saturated F))) then 4 else 0) (if not b then n else if not (is_sound (fault_of P ss F)) then 4 else 0)
-      go true p = ap {B = ℕ} (λ (f : Fault). if not (is_sound f) then 4 else 0) (fault-same P (omega (arith, few-cells (p tt))) ss (omega (arith, few-segments (p tt))) F)
+      go true p = ap {B = ℕ} (λ (r : Result ⊤ Fault). if not (is_sound r) then 4 else 0) (fault-same P (omega (arith, few-cells (p tt))) ss (omega (arith, few-segments (p tt))) F)
       go false p = refl
 
   -- and one that passes is held whole

@@ -21,7 +21,8 @@ use Rattle.cells.specs.declared.Cell.{Cell}
 use Rattle.cells.specs.Cells.{cell, zero_cell, zip3, marks}
 use Rattle.cells.proofs.Ruled.{Ruled, Placed}
 use Rattle.forecast.specs.declared.Forecast.{Forecast}
-use Rattle.forecast.specs.declared.Fault.TheVariants.{Sound, TooMany}
+use Rattle.std.specs.Prelude.{Ok, Err}
+use Rattle.forecast.specs.declared.Fault.TheVariants.{TooMany}
 use Rattle.forecast.specs.Cells.{cells, used_cells}
 use Rattle.forecast.specs.Faults.{fault_at, is_sound, fault_of}
 use Rattle.forecast.specs.Tidy.{Roomy, Tidy, Marker}
@@ -96,7 +97,7 @@ module _ (P : ℕ) (p : P < 255) (ss : Segments) (few : length ss < 255) (F : Fo
   fault-same =
       elim (dec_lt P F.used) [
         | yes l ↦ fault-many P ss (saturated F) (over l) ∙ sym (fault-many P ss F l)
-        | no l ↦ λ j. if ltb P (capped_small F.used (omega arith) j) then TooMany else elim (first (λ i. not (is_sound (at_same (omega arith) i j))) 0 (long-capped F j)) [ none ↦ Sound | some i ↦ at_same (omega arith) i j ]
+        | no l ↦ λ j. if ltb P (capped_small F.used (omega arith) j) then Err TooMany else elim (first (λ i. not (is_sound (at_same (omega arith) i j))) 0 (long-capped F j)) [ none ↦ Ok tt | some i ↦ at_same (omega arith) i j ]
       ]
     where
       over : P < F.used → P < capped F.used

@@ -72,19 +72,19 @@ module _ (c : After-fault_of-fault) where
       c.fault_of-fault.ensures (segments_of slots) (shows-passed (profile (up-After-shape-1 _ _ _ _ c.before.before)) slots (list-passes (up-After-shape-1 _ _ _ _ c.before.before))) long
       ∙ ap (λ (p : ℕ). fault_of p (segments_of slots) told) (((looked (up-After-shape-1 _ _ _ _ c.before.before) []).shape (accepted (up-After-shape-1 _ _ _ _ c.before.before))).cells ∙ ap (λ (h : ℕ). 6 + h) ((looked (up-After-shape-1 _ _ _ _ c.before.before) []).height (accepted (up-After-shape-1 _ _ _ _ c.before.before))))
 
-pub returns-then-not-is_sound : goal.returns-then-not-is_sound
-returns-then-not-is_sound c =
+pub returns-in-Err : goal.returns-in-Err
+returns-in-Err c =
     record {
-      looked = λ table. looked-refused (profile (goal.at.returns-then-not-is_sound c).After-shape-1) (list (goal.at.returns-then-not-is_sound c).After-shape-1) WrongForecast _ c.refuse.ensures _
-          (forecast-wrong _ (profile (goal.at.returns-then-not-is_sound c).After-shape-1) (list (goal.at.returns-then-not-is_sound c).After-shape-1) (told (goal.at.returns-then-not-is_sound c).After-fault_of-fault) (passes (goal.at.returns-then-not-is_sound c).After-shape-1 table) (sym (ap is_sound (fault-is (goal.at.returns-then-not-is_sound c).After-fault_of-fault)) ∙ sym c.is_sound.ensures ∙ c.if-not-is_sound.true));
-      counts = counting-refused (profile (goal.at.returns-then-not-is_sound c).After-shape-1) (list (goal.at.returns-then-not-is_sound c).After-shape-1) WrongForecast _ c.refuse.ensures _ (counting (goal.at.returns-then-not-is_sound c).After-shape-1).long;
+      looked = λ table. looked-refused (profile (goal.at.returns-in-Err c).After-shape-1) (list (goal.at.returns-in-Err c).After-shape-1) WrongForecast _ c.refuse.ensures _
+          (forecast-wrong _ (profile (goal.at.returns-in-Err c).After-shape-1) (list (goal.at.returns-in-Err c).After-shape-1) (told (goal.at.returns-in-Err c).After-fault_of-fault) (passes (goal.at.returns-in-Err c).After-shape-1 table) (sym (ap is_sound (fault-is (goal.at.returns-in-Err c).After-fault_of-fault)) ∙ ap is_sound c.in-Err.is));
+      counts = counting-refused (profile (goal.at.returns-in-Err c).After-shape-1) (list (goal.at.returns-in-Err c).After-shape-1) WrongForecast _ c.refuse.ensures _ (counting (goal.at.returns-in-Err c).After-shape-1).long;
     }
 
 pub returns : goal.returns
 returns c =
     record {
       looked = λ table. renumbered _
-          (passes (goal.at.returns c).After-shape-1 table ∙ sym (forecast-passes _ (profile (goal.at.returns c).After-shape-1) (list (goal.at.returns c).After-shape-1) (told (goal.at.returns c).After-fault_of-fault) (passes (goal.at.returns c).After-shape-1 table) (sym (ap is_sound (fault-is (goal.at.returns c).After-fault_of-fault)) ∙ sym c.is_sound.ensures ∙ c.if-not-is_sound.false)))
+          (passes (goal.at.returns c).After-shape-1 table ∙ sym (forecast-passes _ (profile (goal.at.returns c).After-shape-1) (list (goal.at.returns c).After-shape-1) (told (goal.at.returns c).After-fault_of-fault) (passes (goal.at.returns c).After-shape-1 table) (sym (ap is_sound (fault-is (goal.at.returns c).After-fault_of-fault)) ∙ ap is_sound c.in_default-fault.is)))
           (looked (goal.at.returns c).After-shape-1 table);
       counts = counting (goal.at.returns c).After-shape-1;
     }

@@ -1,13 +1,13 @@
 -- Sums made anew, a level at a time: those that are still to be made lie over entries a to z.
 use mathlib.Core.Path.{◌≡◌, refl, sym, ap, ap₂, ◌∙◌}
-use mathlib.Core.Logic.{◌⊎◌, inl, inr, ◌≢◌}
+use mathlib.Core.Logic.{◌⊎◌, inl, inr}
 use mathlib.Core.List.{List}
 use Prim.Native.Nat.{ℕ, zero, suc, ◌+◌, ◌-◌, ◌*◌, ◌/◌, ◌^◌, ◌≤◌, ◌<◌}
 use native.Mathlib.Nat.{pow-succ', pow-zero, le-mul_of_pos_right}
 use native.Mathlib.Decide.{dec_lt}
 use native.Mathlib.Omega.{arith}
-use lib.ListN.{length, get_or, set, take, length-set}
-use lib.Seq.{get_or-set_same, get_or-set_other, get_or-take, length-take-le, ext_get_or}
+use lib.ListN.{length, get_or, take}
+use lib.Seq.{get_or-take, length-take-le, ext_get_or}
 use Rattle.slots.proofs.Windows.{pow_pos}
 use Rattle.tables.specs.Kept.{Loose}
 use Rattle.tables.specs.Tree.{Sums, SumsBut, Resummed}
@@ -17,44 +17,6 @@ pub record Resumming (n a x : ℕ) (t t' : List ℕ) : Type 0 where
   pub long : length t' ≡ length t
   pub sums : (k : ℕ) → a ≤ k → k < x → get_or t' k 0 ≡ get_or t (2 * (k - n)) 0 + get_or t (2 * (k - n) + 1) 0
   pub others : (k : ℕ) → (k < a) ⊎ (x ≤ k) → get_or t' k 0 ≡ get_or t k 0
-
-pub resumming-start : (n a : ℕ) (t : List ℕ) → Resumming n a a t t
-resumming-start n a t = record { long = refl; sums = λ k p q. absurd (omega arith); others = λ k o. refl }
-
-module _ (n a x : ℕ) (t t' : List ℕ) (r : Resumming n a x t t') where
-  -- the halves are as they were
-  pub halves-read : 2 * (x - n) + 1 < a
-      → get_or t' (2 * (x - n)) 0 + get_or t' (2 * (x - n) + 1) 0 ≡ get_or t (2 * (x - n)) 0 + get_or t (2 * (x - n) + 1) 0
-  halves-read h = ap₂ {C = ℕ} ◌+◌ (r.others (2 * (x - n)) (inl (omega arith))) (r.others (2 * (x - n) + 1) (inl h))
-
-  pub resumming-more : (v : ℕ) → a ≤ x → x < length t → v ≡ get_or t (2 * (x - n)) 0 + get_or t (2 * (x - n) + 1) 0 → Resumming n a (x + 1) t (set t' x v)
-  resumming-more v h l e = record {
-    long = length-set t' x v ∙ r.long;
-    sums = λ k p q.
-        elim (dec_lt k x) [
-          | yes b ↦ get_or-set_other t' x k v 0 (below k b) ∙ r.sums k p b
-          | no b ↦ let d : x ≡ k = omega arith in rw (← d) (get_or-set_same t' x v 0 (omega (arith, r.long)) ∙ e)
-        ];
-    others = λ k o. get_or-set_other t' x k v 0 (apart k o) ∙ r.others k (still k o);
-  }
-    where
-      below : (k : ℕ) → k < x → k ≢ x
-      below k b d = omega arith
-
-      apart : (k : ℕ) → (k < a) ⊎ (x + 1 ≤ k) → k ≢ x
-      apart k (inl b) d = omega arith
-      apart k (inr b) d = omega arith
-
-      still : (k : ℕ) → (k < a) ⊎ (x + 1 ≤ k) → (k < a) ⊎ (x ≤ k)
-      still k (inl b) = inl b
-      still k (inr b) = inr (omega arith)
-
-  pub resumming-end : (z : ℕ) → a ≤ z + 1 → x ≡ z + 1 → Resummed n a z t t'
-  resumming-end z h e = record { long = r.long; sums = λ k p q. r.sums k p (omega arith); others = λ k o. r.others k (still k o) }
-    where
-      still : (k : ℕ) → (k < a) ⊎ (z < k) → (k < a) ⊎ (x ≤ k)
-      still k (inl b) = inl b
-      still k (inr b) = inr (omega arith)
 
 -- LEVEL BY LEVEL
 -- Entries a to z are of the level that begins at base and has 2^up entries; an entry of it has the counts of `each` segments.

@@ -1,20 +1,18 @@
 -- Refusal 14: when a table is found right, and when wrong.
 use mathlib.Core.Path.{◌≡◌, refl, sym, ap, ◌∙◌}
 use mathlib.Core.Logic.{◌≢◌}
-use mathlib.Core.Bool.{Bool, false, not}
+use mathlib.Core.Bool.{Bool, false}
 use mathlib.Core.List.{List, [], ◌∷◌, map}
 use Prim.Native.Nat.{ℕ, zero, suc, ◌+◌, ◌-◌, ◌*◌, ◌^◌, ◌≤◌, ◌<◌}
 use native.Mathlib.Omega.{arith}
-use lib.Dec.{T, T_not}
 use lib.ListN.{length, take, drop, get_or, length-drop, length-map, get_or-map}
 use lib.Seq.{drop-cons, get_or-take, get_or-drop, length-take-le, ext_get_or}
 use Rattle.lists.specs.Lists.{total}
 use Rattle.lists.proofs.Joined.{total-suc}
 use Rattle.slots.specs.Segments.{Segments}
 use Rattle.slots.specs.Shown.{CountsOf}
-use Rattle.slots.proofs.Windows.{pow_pos}
 use Rattle.levels.specs.Tables.{table_of}
-use Rattle.levels.proofs.Tables.{length-table, table-counts}
+use Rattle.levels.proofs.Tables.{length-table, table-first}
 use Rattle.tables.specs.Tree.{Sums}
 use Rattle.tables.proofs.RightTables.{sums-right, sums-table}
 use Rattle.judging.specs.Answers.{Answers}
@@ -65,22 +63,23 @@ module _ (h : ℕ) (ss : Segments) (n : ℕ) (p : n ≡ 2 ^ h) (many : length ss
   pub long-answers : length t + 1 ≢ 2 * n → Answers (t ≡ table_of h ss) false
   long-answers w = record { yes = λ x. absurd x; no = λ e. absurd (w (ap (λ (l : List ℕ). length l + 1) e ∙ length-table h ss (many ∙ p) ∙ ap (λ (m : ℕ). 2 * m) (sym p))) }
 
-  module _ (counts : List ℕ) (each : CountsOf ss counts) (b : Bool) (a : Answers ((k : ℕ) → k < n → get_or t k 0 ≡ get_or counts k 0) b) where
-    pub counts-answers : T (not b) → Answers (t ≡ table_of h ss) false
-    counts-answers x = record {
+  module _ (counts : List ℕ) (each : CountsOf ss counts) (room : n ≤ length counts) where
+    counts-front : take n counts ≡ map length ss
+    counts-front =
+        ext_get_or 0 (take n counts) (map length ss) (length-take-le n counts room ∙ sym (length-map ss length ∙ many))
+        (λ k l.
+        let m : k < n = omega (arith, length-take-le n counts room) in
+        get_or-take n counts k 0 m ∙ each k (omega arith) ∙ sym (get_or-map length ss k []))
+
+    pub counts-answers : take n t ≢ take n counts → Answers (t ≡ table_of h ss) false
+    counts-answers w = record {
       yes = λ y. absurd y;
-      no = λ e. T_not b x (a.no (λ k l. ap (λ (m : List ℕ). get_or m k 0) e ∙ table-counts h ss (many ∙ p) k (omega arith) ∙ sym (each k (omega arith))));
+      no = λ e. absurd (w (ap (take n) e ∙ ap (λ (m : ℕ). take m (table_of h ss)) p ∙ table-first h ss (many ∙ p) ∙ sym counts-front));
     }
 
-    pub sums-answers : T b → length t + 1 ≡ 2 * n → (r : Bool) → Answers (Sums n t) r → Answers (t ≡ table_of h ss) r
-    sums-answers x long r s = record { yes = λ y. sums-table h ss n p many t (s.yes y) first long; no = λ e. s.no (sums-right h ss n p many t e) }
-      where
-        size : length (take n t) ≡ n
-        size = length-take-le n t (omega (arith, pow_pos h))
+    pub sums-answers : take n t ≡ take n counts → length t + 1 ≡ 2 * n → (r : Bool) → Answers (Sums n t) r → Answers (t ≡ table_of h ss) r
+    sums-answers x long r s = record { yes = λ y. sums-table h ss n p many t (s.yes y) (x ∙ counts-front) long; no = λ e. s.no (sums-right h ss n p many t e) }
 
-        first : take n t ≡ map length ss
-        first =
-            ext_get_or 0 (take n t) (map length ss) (size ∙ sym (length-map ss length ∙ many))
-            (λ k l.
-            let m : k < n = omega (arith, size) in
-            get_or-take n t k 0 m ∙ a.yes x k m ∙ each k (omega arith) ∙ sym (get_or-map length ss k []))
+-- entries of equal fronts
+pub front-same : (n : ℕ) (t counts : List ℕ) → take n t ≡ take n counts → (k : ℕ) → k < n → get_or t k 0 ≡ get_or counts k 0
+front-same n t counts e k l = sym (get_or-take n t k 0 l) ∙ ap (λ (m : List ℕ). get_or m k 0) e ∙ get_or-take n counts k 0 l

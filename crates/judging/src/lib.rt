@@ -8,32 +8,15 @@ ghost use Rattle.levels.specs.Tables.{table_of};
 ghost use Rattle.tables.specs.Tree.{Sums};
 ghost use Rattle.judging.specs.Answers.{Answers};
 
-// Whether the first `n` entries are these counts.
-fn counts_right(table: &[usize], counts: &[usize], n: usize) -> bool
-    requires { (n ≤ length table.now) × (n ≤ length counts.now) }
-    ensures { Answers ((k : ℕ) → k < n → get_or table.now k 0 ≡ get_or counts.now k 0) result }
-{
-    let mut k = 0;
-    while k < n {
-        if table[k] != counts[k] {
-            return false;
-        }
-        k += 1;
-    }
-    true
-}
-
 // Whether each entry above level 0 is the sum of its halves.
 fn sums_right(table: &[usize], n: usize) -> bool
     requires { (1 ≤ n) × (n ≤ 64) × (length table.now + 1 ≡ 2 * n) × ((k : ℕ) → k < n → get_or table.now k 0 ≤ 64) }
     ensures { Answers (Sums n table.now) result }
 {
-    let mut i = 0;
-    while i + 1 < n {
+    for i in 0..n - 1 {
         if table[n + i] != table[2 * i] + table[2 * i + 1] {
             return false;
         }
-        i += 1;
     }
     true
 }
@@ -43,11 +26,5 @@ pub fn is_right(table: &[usize], counts: &[usize], n: usize) -> bool
     requires { (1 ≤ n) × (n ≤ 64) × (n ≤ length counts.now) × ((k : ℕ) → k < n → get_or counts.now k 0 ≤ 64) }
     ensures { (h : ℕ) (ss : Segments) → n ≡ 2 ^ h → length ss ≡ n → CountsOf ss counts.now → Answers (table.now ≡ table_of h ss) result }
 {
-    if table.len() + 1 != 2 * n {
-        return false;
-    }
-    if !counts_right(table, counts, n) {
-        return false;
-    }
-    sums_right(table, n)
+    table.len() + 1 == 2 * n && table[..n] == counts[..n] && sums_right(table, n)
 }

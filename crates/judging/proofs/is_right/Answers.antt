@@ -1,29 +1,36 @@
 -- `is_right` tells whether a table is right: its length, the counts of the segments, and the sums.
-use mathlib.Core.Path.{sym, subst}
-use mathlib.Core.Bool.{Bool, not}
-use native.Mathlib.Omega.{arith}
-use lib.Dec.{T}
-use Rattle.judging.proofs.Judged.{long-answers, counts-answers, sums-answers}
+use Rattle.std.proofs.Common.{◌≡◌, take, rules, arith, sym, ◌∙◌}
+use Rattle.std.specs.Cmp.Lexicographic.{same_text, other_text}
+use Rattle.judging.proofs.Judged.{long-answers, counts-answers, sums-answers, front-same}
 use Rattle.judging.proofs.is_right.Goals as goal
-
-pub returns-then-table-n : goal.returns-then-table-n
-returns-then-table-n c = let a = c.args in λ h ss p e each. long-answers h ss a.n p e a.table.now (λ z. omega arith)
-
-pub returns-then-not-counts_right : goal.returns-then-not-counts_right
-returns-then-not-counts_right c =
-    let a = c.args in
-    let f = c.counts_right in
-    λ h ss p e each. counts-answers h ss a.n p e a.table.now a.counts.now each f.result f.ensures (subst (λ (b : Bool). T (not b)) (sym c.if-not-counts_right.true) tt)
+use Rattle.judging.proofs.is_right.Goals.{then-table-n, else-table-n}
 
 pub sums_right-requires : goal.sums_right-requires
 sums_right-requires c =
-    let f = c.counts_right in
-    let t : T f.result = subst T (sym c.if-not-counts_right.false) tt in
-    (c.requires.0, c.requires.1, omega arith, λ k l. omega (arith, f.ensures.yes t k l, c.requires.3 k l))
+    elim c.if-table-n.branch [
+      | then-table-n w ↦
+          let a = c.args in
+          let e : take a.n a.table.now ≡ take a.n a.counts.now = same_text _ _ (sym c.if-eq.true ∙ w.value-is ∙ w.eq.ensures) in
+          (c.requires.0, c.requires.1, w.if-table-n.true, λ k l. omega (arith, front-same a.n a.table.now a.counts.now e k l, c.requires.3 k l))
+      | else-table-n w ↦ search rules
+    ]
 
-pub returns : goal.returns
-returns c =
+pub returns-then-eq : goal.returns-then-eq
+returns-then-eq c =
+    elim c.if-table-n.branch [
+      | then-table-n w ↦
+          let a = c.args in
+          let e : take a.n a.table.now ≡ take a.n a.counts.now = same_text _ _ (sym c.if-eq.true ∙ w.value-is ∙ w.eq.ensures) in
+          λ h ss p many each. sums-answers h ss a.n p many a.table.now a.counts.now each c.requires.2 e w.if-table-n.true c.sums_right.result c.sums_right.ensures
+      | else-table-n w ↦ search rules
+    ]
+
+pub returns-else-eq : goal.returns-else-eq
+returns-else-eq c =
     let a = c.args in
-    let f = c.counts_right in
-    let t : T f.result = subst T (sym c.if-not-counts_right.false) tt in
-    λ h ss p e each. sums-answers h ss a.n p e a.table.now a.counts.now each f.result f.ensures t c.if-table-n.false c.sums_right.result c.sums_right.ensures
+    elim c.if-table-n.branch [
+      | then-table-n w ↦
+          let e = other_text _ _ (sym c.if-eq.false ∙ w.value-is ∙ w.eq.ensures) in
+          λ h ss p many each. rw c.if-eq.false (counts-answers h ss a.n p many a.table.now a.counts.now each c.requires.2 e)
+      | else-table-n w ↦ λ h ss p many each. rw c.if-eq.false (long-answers h ss a.n p many a.table.now w.if-table-n.false)
+    ]

@@ -46,22 +46,20 @@ fn look_over(profile: u64, list: &[u64], cards: &[u32], counts: &mut [usize]) ->
     if cards.len() != list.len() {
         return refuse(Refusal::WrongCards);
     }
-    let reading = reading::read_slots(list, counts);
-    let order = reading.order;
-    if !reading::is_kept(order) {
+    let Ok(keys) = reading::read_slots(list, counts) else {
         return refuse(Refusal::WrongOrder);
-    }
+    };
     if strays::stray(cards, counts, list.len() / 64) {
         return refuse(Refusal::CardInGap);
     }
     let shape = shares::shape_of(shares::profile_of(profile), height);
-    if shape.capacity < reading.keys {
+    if shape.capacity < keys {
         return refuse(Refusal::TooManyKeys);
     }
     Listing {
         verdict: Verdict::Accepted,
         shape,
-        keys: reading.keys,
+        keys,
     }
 }
 

@@ -12,13 +12,14 @@ use lib.Dec.{T, not_T, leb, leb→le, nleb→lt}
 use lib.ListN.{length, take, length-append, length-take}
 use lib.Seq.{take-suc, take_all}
 use Rattle.std.proofs.Common.{if◌then◌else◌}
-use Rattle.lists.proofs.Tests.{either, tested, nor, is_true, is_false}
+use Rattle.lists.proofs.Tests.{tested, nor, is_true, is_false}
 use Rattle.lists.proofs.Filtered.{only-append, only-length}
 use Rattle.lists.proofs.Search.{first-is, first-none}
-use Rattle.slots.specs.declared.Order.{Order}
-use Rattle.slots.specs.declared.Order.TheVariants.{Kept, NotRising, AfterGap}
+use Rattle.slots.specs.declared.Disorder.{Disorder}
+use Rattle.slots.specs.declared.Disorder.TheVariants.{NotRising, AfterGap}
+use Rattle.std.specs.Prelude.{Result, Ok, Err, ⊤}
 use Rattle.slots.specs.Segments.{is_key, live}
-use Rattle.slots.specs.Orders.{slot_at, not_rising, after_gap, order_of, is_kept}
+use Rattle.slots.specs.Orders.{slot_at, not_rising, after_gap, order_of}
 use Rattle.slots.specs.Shown.{Reads}
 use Rattle.reading.specs.Stretches.{Sound, break_of}
 use Rattle.slots.proofs.Orders.{in_list, fault, falls, gaps, falling}
@@ -27,12 +28,12 @@ use Rattle.slots.proofs.Orders.{in_list, fault, falls, gaps, falling}
 module _ (xs : List ℕ) where
   -- slot j breaks it, and none before: it is told by its test of order
   pub order-at : (j : ℕ) → j < length xs → ((k : ℕ) → k < j → T (not (fault xs k))) → T (fault xs j)
-      → order_of xs ≡ (if not_rising xs j then NotRising j else AfterGap j)
+      → order_of xs ≡ Err (if not_rising xs j then NotRising j else AfterGap j)
   unfolding order_of
   order-at j l h t = rw (first-is (fault xs) 0 (length xs) j (omega arith, t, λ k p q. h k q) (omega arith), order_of)
 
   -- no slot breaks it
-  pub order-kept : ((k : ℕ) → k < length xs → T (not (fault xs k))) → order_of xs ≡ Kept
+  pub order-kept : ((k : ℕ) → k < length xs → T (not (fault xs k))) → order_of xs ≡ Ok tt
   unfolding order_of
   order-kept h = rw (first-none (fault xs) 0 (length xs) (λ k p q. h k (omega arith)), order_of)
 
@@ -108,19 +109,9 @@ module _ {xs : List ℕ} where
         ]
 
     -- THE READING, where every slot is passed
-    pub sound-end : length xs ≤ j → Reads xs (record { order = Kept; keys = keys })
-    sound-end h = record {
-      order = sym (order-kept xs (λ k l. s.faultless k (omega arith)));
-      few = omega (arith, sound-few);
-      keys = λ t. s.many ∙ ap (λ l. length (live l)) (take_all j xs h);
-    }
+    pub sound-end : length xs ≤ j → Reads xs (Ok keys)
+    sound-end h = (order-kept xs (λ k l. s.faultless k (omega arith)), s.many ∙ ap (λ l. length (live l)) (take_all j xs h), omega (arith, sound-few))
 
     -- and where slot j breaks the order
-    pub sound-fault : slot_at xs j ≢ 0 → T (fault xs j) → Reads xs (record { order = break_of (slot_at xs j) top j; keys = 0 })
-    sound-fault key t = record { order = sym told; few = omega arith; keys = λ k. absurd (never (subst (λ (o : Order). T (is_kept o)) told k)) }
-      where
-        told : order_of xs ≡ break_of (slot_at xs j) top j
-        told = order-at xs j (in_list xs j key) s.faultless t ∙ ap {B = Order} (λ b. if b then NotRising j else AfterGap j) (sound-test key)
-
-        never : ¬ (T (is_kept (break_of (slot_at xs j) top j)))
-        never = either (λ (o : Order). ¬ (T (is_kept o))) (leb (slot_at xs j) top) (λ u. u) (λ u. u)
+    pub sound-fault : slot_at xs j ≢ 0 → T (fault xs j) → Reads xs (Err (break_of (slot_at xs j) top j))
+    sound-fault key t = order-at xs j (in_list xs j key) s.faultless t ∙ ap {B = Result ⊤ Disorder} (λ b. Err (if b then NotRising j else AfterGap j)) (sound-test key)

@@ -4,18 +4,18 @@ use mathlib.Core.List.{List, [], ◌++◌, map}
 use Prim.Native.Nat.{ℕ, zero, suc, ◌+◌, ◌*◌, ◌/◌, ◌≤◌, ◌<◌}
 use native.Mathlib.Nat.{not-suc-le-zero, le_of_suc-le-suc}
 use native.Mathlib.Omega.{arith}
-use lib.Dec.{T, leb}
+use lib.Dec.{T}
 use lib.ListN.{length, take, drop, get_or, set, length-append, length-map, get_or-map}
 use lib.Seq.{take-add, take_all, drop-drop}
 use Rattle.lists.specs.Lists.{parts}
-use Rattle.lists.proofs.Tests.{either}
 use Rattle.lists.proofs.Filtered.{only-append}
 use Rattle.lists.proofs.Parts.{length-parts}
-use Rattle.slots.specs.declared.Order.{Order}
+use Rattle.slots.specs.declared.Disorder.{Disorder}
 use Rattle.slots.specs.Segments.{is_key, live, segments_of}
 use Rattle.slots.specs.Orders.{is_kept}
+use Rattle.std.specs.Prelude.{Result, Err, ⊤}
 use Rattle.slots.specs.Shown.{Reads, Counted, Tallied}
-use Rattle.reading.specs.Stretches.{Sound, break_of}
+use Rattle.reading.specs.Stretches.{Sound}
 use Rattle.slots.proofs.Tallies.{counted-more}
 
 part_at : (n : ℕ) (xs : List ℕ) (s : ℕ) → s < n → get_or (parts 64 n xs) s [] ≡ take 64 (drop (64 * s) xs)
@@ -62,8 +62,5 @@ module _ (xs : List ℕ) where
       }
 
   -- or the order is not kept
-  pub tally-none : {counts counts' : List ℕ} {o : Order} (x top j : ℕ) → Reads xs (record { order = o; keys = 0 }) → o ≡ break_of x top j → length counts' ≡ length counts → Tallied xs counts counts'
-  tally-none {counts} {counts'} {o} x top j r told l = record { long = l; places = λ t. absurd (never (subst (λ (o : Order). T (is_kept o)) (sym r.order ∙ told) t)) }
-    where
-      never : ¬ (T (is_kept (break_of x top j)))
-      never = either (λ (o : Order). ¬ (T (is_kept o))) (leb x top) (λ u. u) (λ u. u)
+  pub tally-none : {counts counts' : List ℕ} {d : Disorder} → Reads xs (Err d) → length counts' ≡ length counts → Tallied xs counts counts'
+  tally-none r l = record { long = l; places = λ t. absurd (subst (λ (o : Result ⊤ Disorder). T (is_kept o)) r t) }

@@ -8,8 +8,9 @@ use native.Mathlib.Omega.{arith}
 use lib.Dec.{T}
 use lib.ListN.{length}
 use Rattle.lists.proofs.Tests.{or_left, or_right}
-use Rattle.slots.specs.declared.Order.{Order}
+use Rattle.slots.specs.declared.Disorder.{Disorder}
 use Rattle.slots.specs.Orders.{slot_at, not_rising, after_gap}
+use Rattle.std.specs.Prelude.{Err}
 use Rattle.slots.specs.Shown.{Reads}
 use Rattle.reading.specs.Stretches.{before, Rises, AllGaps, Sound, break_of}
 use Rattle.slots.proofs.Orders.{fault, gapping}
@@ -55,8 +56,8 @@ module _ (xs : List ℕ) where
       segment-sound h = sound-as (omega (arith, rest.to)) refl refl to-stop
 
       -- they end at a key before it
-      pub segment-fault : j < e → {o : Order} → o ≡ break_of (slot_at xs j) top j → Reads xs (record { order = o; keys = 0 })
-      segment-fault h told = subst (λ (o : Order). Reads xs (record { order = o; keys = 0 })) (sym told) (sound-fault to-stop key broken)
+      pub segment-fault : j < e → {d : Disorder} → d ≡ break_of (slot_at xs j) top j → Reads xs (Err d)
+      segment-fault h told = subst (λ (d : Disorder). Reads xs (Err d)) (sym told) (sound-fault to-stop key broken)
         where
           key : slot_at xs j ≢ 0
           key = rest.stops h

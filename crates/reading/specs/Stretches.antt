@@ -1,7 +1,7 @@
 -- What the loops under a reading find, in any slots.
 use Rattle.std.specs.Prelude.{ℕ, ◌-◌, ◌≤◌, ◌<◌, ◌≡◌, not, ◌||◌, ◌≢◌, List, T, leb, eqb, length, take, if◌then◌else◌}
-use Rattle.slots.specs.declared.Order.{Order}
-use Rattle.slots.specs.declared.Order.TheVariants.{NotRising, AfterGap}
+use Rattle.slots.specs.declared.Disorder.{Disorder}
+use Rattle.slots.specs.declared.Disorder.TheVariants.{NotRising, AfterGap}
 use Rattle.slots.specs.Segments.{live}
 use Rattle.slots.specs.Orders.{slot_at, not_rising, after_gap}
 
@@ -30,5 +30,5 @@ pub record Sound (slots : List ℕ) (j top keys : ℕ) : Type 0 where
   pub many : keys ≡ length (live (take j slots))
 
 -- How the key x breaks the order at slot j, where top is the largest key before it.
-abbrev pub break_of : ℕ → ℕ → ℕ → Order
+abbrev pub break_of : ℕ → ℕ → ℕ → Disorder
 break_of x top j = if leb x top then NotRising j else AfterGap j

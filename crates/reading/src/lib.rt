@@ -2,11 +2,10 @@
 #![tactic(auto)]
 
 ghost use Rattle.std.specs.Prelude.{◌≡◌, ◌+◌, ◌*◌, ◌/◌, ◌≤◌, ◌<◌, length};
-ghost use Rattle.slots.specs.Orders.{is_kept};
 ghost use Rattle.slots.specs.Shown.{Reads, Tallied};
 ghost use Rattle.reading.specs.Stretches.{Sound, before, break_of};
 
-use slots::{Order, Reading};
+use slots::Disorder;
 
 pub mod gaps;
 pub mod rising;
@@ -23,17 +22,17 @@ fn slot_before(list: &[u64], a: usize, i: usize, last: u64) -> u64
 }
 
 // How `key` breaks the order at slot `at`, where `top` is the largest key before it.
-fn fault_of(key: u64, top: u64, at: usize) -> Order
+fn fault_of(key: u64, top: u64, at: usize) -> Disorder
     ensures { result ≡ break_of key top at }
 {
     if key <= top {
-        return Order::NotRising(at);
+        return Disorder::NotRising(at);
     }
-    Order::AfterGap(at)
+    Disorder::AfterGap(at)
 }
 
 // What is left of a reading, from slot `a` on, where a segment begins that is not whole: `keys` keys before it, the largest `last`.
-fn read_short(list: &[u64], a: usize, last: u64, keys: usize) -> Reading
+fn read_short(list: &[u64], a: usize, last: u64, keys: usize) -> Result<usize, Disorder>
     requires { (a ≤ length list.now) × (length list.now < a + 64) × (a / 64 * 64 ≡ a) × Sound list.now a last keys }
     ensures { Reads list.now result }
 {
@@ -43,18 +42,14 @@ fn read_short(list: &[u64], a: usize, last: u64, keys: usize) -> Reading
     if j < n {
         let key = list[j];
         let top = slot_before(list, a, i, last);
-        let order = fault_of(key, top, j);
-        return Reading { order, keys: 0 };
+        return Err(fault_of(key, top, j));
     }
-    Reading {
-        order: Order::Kept,
-        keys: keys + (i - a),
-    }
+    Ok(keys + (i - a))
 }
 
-// The first slot that breaks the order, and the number of keys where none does; where none does, the number of keys of each segment
-// is in its place of `counts`. Of any slots.
-pub fn read_slots(list: &[u64], counts: &mut [usize]) -> Reading
+// The number of keys, or the first slot that breaks the order; where none does, the number of keys of each segment is in its place
+// of `counts`. Of any slots.
+pub fn read_slots(list: &[u64], counts: &mut [usize]) -> Result<usize, Disorder>
     requires { length list.now / 64 ≤ length counts.old }
     ensures order { Reads list.now result }
     ensures counts { Tallied list.now counts.old counts.new }
@@ -70,8 +65,7 @@ pub fn read_slots(list: &[u64], counts: &mut [usize]) -> Reading
         let j = gaps::gaps_end(list, i, e);
         let top = slot_before(list, a, i, last);
         if j < e {
-            let order = fault_of(list[j], top, j);
-            return Reading { order, keys: 0 };
+            return Err(fault_of(list[j], top, j));
         }
         counts[s] = i - a;
         keys += i - a;
@@ -80,15 +74,4 @@ pub fn read_slots(list: &[u64], counts: &mut [usize]) -> Reading
         s += 1;
     }
     read_short(list, a, last, keys)
-}
-
-// No slot breaks the order.
-pub fn is_kept(order: Order) -> bool
-    ensures { result ≡ is_kept order }
-{
-    match order {
-        Order::Kept => true,
-        Order::NotRising(_) => false,
-        Order::AfterGap(_) => false,
-    }
 }

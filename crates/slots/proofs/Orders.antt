@@ -13,36 +13,37 @@ use lib.Seq.{get_or-take, get_or-drop}
 use Rattle.std.proofs.Common.{if◌then◌else◌}
 use Rattle.lists.specs.Lists.{any_of}
 use Rattle.lists.specs.Search.{first}
-use Rattle.lists.proofs.Tests.{either, tested, and_left, and_right, and_both, or_left, or_right, or_cases, neqb→ne, ne→neqb, eq→eqb}
+use Rattle.lists.proofs.Tests.{tested, and_left, and_right, and_both, or_left, or_right, or_cases, neqb→ne, ne→neqb, eq→eqb}
 use Rattle.lists.proofs.Members.{mem-at, at_mem}
 use Rattle.lists.proofs.Filtered.{only-mem, mem-only, any_some, some-any}
 use Rattle.lists.proofs.Search.{Firsts, firsts}
-use Rattle.slots.specs.declared.Order.{Order}
-use Rattle.slots.specs.declared.Order.TheVariants.{Kept, NotRising, AfterGap}
+use Rattle.slots.specs.declared.Disorder.{Disorder}
+use Rattle.slots.specs.declared.Disorder.TheVariants.{NotRising, AfterGap}
+use Rattle.std.specs.Prelude.{Result, Ok, Err, ⊤}
 use Rattle.slots.specs.Segments.{is_key, live}
 use Rattle.slots.specs.Orders.{slot_at, not_rising, after_gap, order_of, is_kept}
 
 -- COMPUTED CASES
 -- the first fault is told, whichever it is
-first-falls : order_of (5 ∷ 3 ∷ 0 ∷ 7 ∷ replicate 124 0) ≡ NotRising 1
+first-falls : order_of (5 ∷ 3 ∷ 0 ∷ 7 ∷ replicate 124 0) ≡ Err (NotRising 1)
 unfolding order_of
 first-falls = refl
 
-first-gap : order_of (5 ∷ 0 ∷ 7 ∷ 6 ∷ replicate 124 0) ≡ AfterGap 2
+first-gap : order_of (5 ∷ 0 ∷ 7 ∷ 6 ∷ replicate 124 0) ≡ Err (AfterGap 2)
 unfolding order_of
 first-gap = refl
 
 -- of a slot with both faults, the order
-order-before-gap : order_of (5 ∷ 0 ∷ 3 ∷ replicate 125 0) ≡ NotRising 2
+order-before-gap : order_of (5 ∷ 0 ∷ 3 ∷ replicate 125 0) ≡ Err (NotRising 2)
 unfolding order_of
 order-before-gap = refl
 
 -- a key may not come twice, and a gap ends with its segment
-equal-keys : order_of (5 ∷ 5 ∷ replicate 126 0) ≡ NotRising 1
+equal-keys : order_of (5 ∷ 5 ∷ replicate 126 0) ≡ Err (NotRising 1)
 unfolding order_of
 equal-keys = refl
 
-gap_ends : order_of (5 ∷ replicate 63 0 ++ 6 ∷ replicate 63 0) ≡ Kept
+gap_ends : order_of (5 ∷ replicate 63 0 ++ 6 ∷ replicate 63 0) ≡ Ok tt
 unfolding order_of
 gap_ends = refl
 
@@ -127,8 +128,8 @@ module _ (xs : List ℕ) where
   abbrev pub fault : ℕ → Bool
   fault i = not_rising xs i || after_gap xs i
 
-  abbrev read : Option ℕ → Order
-  read r = elim r [ none ↦ Kept | some i ↦ if not_rising xs i then NotRising i else AfterGap i ]
+  abbrev read : Option ℕ → Result ⊤ Disorder
+  read r = elim r [ none ↦ Ok tt | some i ↦ Err (if not_rising xs i then NotRising i else AfterGap i) ]
 
   -- a reading that is not kept: the fault that it found
   pub broken : T (not (is_kept (order_of xs))) → ((i : ℕ) × (j : ℕ) × Falls xs i j) ⊎ ((i : ℕ) × (j : ℕ) × Gaps xs i j)
@@ -167,7 +168,7 @@ module _ (xs : List ℕ) where
 
       go : (r : Option ℕ) → Firsts fault 0 (length xs) r → T (is_kept (read r)) → Ordered xs × Solid xs
       go none f t = (none-falls (none-at f), none-gaps (none-at f))
-      go (some j) f t = absurd (T_not (is_kept (read (some j))) (either (λ (o : Order). T (not (is_kept o))) (not_rising xs j) tt tt) t)
+      go (some j) f t = absurd t
 
   -- and where there is none, the reading is kept
   pub kept← : Ordered xs → Solid xs → T (is_kept (order_of xs))

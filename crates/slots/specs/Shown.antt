@@ -1,7 +1,7 @@
 -- What it is for slots to show segments, as the promises of searches and counts say it.
-use Rattle.std.specs.Prelude.{ℕ, ◌/◌, ◌≤◌, ◌<◌, ◌≡◌, List, [], ◌++◌, map, T, length, take, drop, get_or, if◌then◌else◌}
+use Rattle.std.specs.Prelude.{ℕ, ◌/◌, ◌≤◌, ◌<◌, ◌≡◌, List, [], ◌++◌, map, T, length, take, drop, get_or, if◌then◌else◌, Result, Ok, Err}
 use Rattle.lists.specs.Lists.{All, total, splice}
-use Rattle.slots.specs.declared.Reading.{Reading}
+use Rattle.slots.specs.declared.Disorder.{Disorder}
 use Rattle.slots.specs.declared.Place.{Place}
 use Rattle.slots.specs.Segments.{Segments, keys, live, render, segments_of}
 use Rattle.slots.specs.Keys.{Listed, member, below, predecessor, segment_of}
@@ -34,10 +34,9 @@ pub record Counted (ss : Segments) (first n : ℕ) (counts : List ℕ) (r : ℕ)
   pub places : counts' ≡ splice first n (map length (take n (drop first ss))) counts
 
 -- What a reading of any slots finds: the first slot that breaks the order, and the number of keys where none does.
-pub record Reads (slots : List ℕ) (r : Reading) : Type 0 where
-  pub order : r.order ≡ order_of slots
-  pub few : r.keys ≤ length slots
-  pub keys : T (is_kept (order_of slots)) → r.keys ≡ length (live slots)
+abbrev pub Reads : List ℕ → Result ℕ Disorder → Type 0
+Reads slots (Err d) = order_of slots ≡ Err d
+Reads slots (Ok n) = (order_of slots ≡ Ok tt) × (n ≡ length (live slots)) × (n ≤ length slots)
 
 -- Where the order is kept, the number of keys of each segment is in its place; the other places are as they were.
 pub record Tallied (slots counts counts' : List ℕ) : Type 0 where

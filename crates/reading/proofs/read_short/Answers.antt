@@ -10,7 +10,7 @@ returns-then-j-n c =
     let pre = c.requires in
     let rise = c.rising_rest-i.ensures in
     let rest = c.gaps_rest-j.ensures in
-    segment-fault _ pre.3 pre.2 (omega arith) (omega arith) rise rest c.slot_before-top.ensures (omega arith) c.fault_of-order.ensures
+    segment-fault _ pre.3 pre.2 (omega arith) (omega arith) rise rest c.slot_before-top.ensures (omega arith) c.fault_of.ensures
 
 pub overflow_add-result : goal.overflow_add-result
 overflow_add-result c = omega (arith, sound-few c.requires.3)

@@ -5,7 +5,6 @@ use mathlib.Core.Path.{refl}
 use Prim.Native.Nat.{◌-◌}
 use native.Mathlib.Omega.{arith}
 use lib.ListN.{length-set}
-use Rattle.slots.specs.Orders.{slot_at}
 use Rattle.reading.proofs.Readers.{sound_none, sound-few}
 use Rattle.reading.proofs.SegmentReads.{segment-sound, segment-fault}
 use Rattle.slots.proofs.Tallies.{counted_none}
@@ -20,12 +19,10 @@ returns-then-j-e c =
     let l = c.loop-a in
     let rise = c.rising_whole-i.ensures in
     let rest = c.gaps_end-j.ensures in
-    let xs = c.args.list.now in
-    let j = c.gaps_end-j.result in
-    let reads = segment-fault _ l.invariant.3 (omega arith) (omega arith) (omega arith) rise rest c.slot_before-top.ensures (omega arith) c.fault_of-order.ensures in
+    let reads = segment-fault _ l.invariant.3 (omega arith) (omega arith) (omega arith) rise rest c.slot_before-top.ensures (omega arith) c.fault_of.ensures in
     record {
       order = reads;
-      counts = tally-none xs (slot_at xs j) c.slot_before-top.result j reads c.fault_of-order.ensures (omega arith);
+      counts = tally-none _ reads (omega arith);
     }
 
 pub overflow_add-keys : goal.overflow_add-keys

@@ -14,19 +14,14 @@ fn first_in(table: &[usize], n: usize, e: usize, a: usize) -> usize
     ensures range { result < n }
     ensures place { Sums n table.now → (m : ℕ) → Covers n e a m → get_or table.now e 0 ≢ 0 → FirstIn table.now a m result }
 {
-    if a < n {
-        if table[a] != 0 {
-            return a;
-        }
+    if a < n && table[a] != 0 {
+        return a;
     }
+    // By index: after an entry comes one of its halves.
     let mut at = e;
     while n <= at {
         let left = 2 * (at - n);
-        if table[left] == 0 {
-            at = left + 1;
-        } else {
-            at = left;
-        }
+        at = if table[left] == 0 { left + 1 } else { left };
     }
     at
 }
@@ -37,21 +32,22 @@ pub fn seek(table: &[usize], list: &[u64], n: usize, key: u64) -> usize
     ensures range { result < n }
     ensures place { (h : ℕ) (ss : Segments) → n ≡ 2 ^ h → Shows ss list.now → table.now ≡ table_of h ss → result ≡ seat key ss }
 {
-    // The segment is one of the `m` from `a` on, which are under entry `e`.
+    // The segment is one of the `m` from `a` on, which are under entry `e`; by index, since one of its halves comes next.
     let mut e = 2 * n - 2;
     let mut a = 0;
     let mut m = n;
     while n <= e {
         let left = 2 * (e - n);
         let right = left + 1;
-        m = m / 2;
+        m /= 2;
+        // Two tests and not one: so the inner one is compiled without a branch.
         if table[right] == 0 {
             e = left;
         } else {
             let s = first_in(table, n, right, a + m);
             if list[64 * s] <= key {
                 e = right;
-                a = a + m;
+                a += m;
             } else {
                 e = left;
             }

@@ -2,8 +2,8 @@
 use mathlib.Core.Path.{◌≡◌, refl, sym, ap, ap₂, subst, ◌∙◌}
 use mathlib.Core.Bool.{true, false, not}
 use mathlib.Core.Logic.{◌≢◌}
-use mathlib.Core.Option
-use mathlib.Core.Option.{Option, some}
+use mathlib.Core.Option.{some}
+use Rattle.std.specs.Prelude.{Option, None, Some, unwrap_or}
 use mathlib.Core.List.{List, []}
 use Prim.Native.Nat.{ℕ, ◌+◌, ◌-◌, ◌^◌, ◌≤◌, ◌<◌}
 use native.Mathlib.Omega.{arith}
@@ -39,7 +39,7 @@ use Rattle.aims.specs.declared.Aim.{Aim}
 use Rattle.aims.specs.Aims.{Stands, refused_aim, Aimed}
 use Rattle.aims.proofs.Standing.{lawful-stands, good-stands, shows-stands, segments-stand, keys-stand, right-stands}
 use Rattle.aims.proofs.Places.{some-segments, place_in, place-held, place_at, place-rising}
-use Rattle.aims.proofs.Answers.{level-some, aimed-refused, aimed-accepted, key_aim}
+use Rattle.aims.proofs.Answers.{none-some, level-some, aimed-refused, aimed-accepted, key_aim}
 
 module _ {slots : List ℕ} {F : Forecast} {k : Shape} {n : ℕ} (s : Stands slots F k n) where
   abbrev ss : Segments
@@ -102,7 +102,7 @@ module _ {slots : List ℕ} {F : Forecast} {k : Shape} {n : ℕ} (s : Stands slo
             at_home (λ _. found.before fresh) (rw (lt-ltb _ _ h) refl)
 
         -- A FULL ONE: the keys of the window that a climb finds
-        module _ (full : k.high ≤ p.place.held) {bounds table : List ℕ} (index : Indexed ss slots bounds table) {r : Climb}
+        module _ (full : k.high ≤ p.place.held) {bounds table : List ℕ} (index : Indexed ss slots bounds table) (r : Option Climb)
             (climbed : (ts : Segments) (new : List ℕ) → length ts ≡ 2 ^ k.height → table ≡ table_of k.height ts → length new + 0 ≡ length (get_or ts p.place.segment []) + 1
             → Climbed (shares_at k) p.place.segment (set ts p.place.segment new) r) where
           known : Climbed (shares_at k) (home y ss) (put_in y ss) r
@@ -122,13 +122,19 @@ module _ {slots : List ℕ} {F : Forecast} {k : Shape} {n : ℕ} (s : Stands slo
           taken : chosen S (home y ss) (put_in y ss) ≡ some window.0
           taken = ((climb_is S (home y ss) (put_in y ss)).0 window.0).1 window.2
 
-          level-is : r.level ≡ window.0
-          level-is = known.level ∙ ap (λ (o : Option ℕ). Option.get_or o 0) taken
+          -- it is what the climb finds
+          found-some : (c : Climb) × (r ≡ Some c)
+          found-some = elim r as (λ (o : Option Climb). Climbed S (home y ss) (put_in y ss) o → (c : Climb) × (o ≡ Some c)) [
+            | Some c ↦ λ _. (c, refl)
+            | None ↦ λ k. absurd (none-some (sym k ∙ taken))
+          ] known
 
-          low : 1 ≤ r.level
-          low = omega (arith, level-is, window.2.from)
-
-          pub in-swept : Comes (Insert y) (key_aim true y p.before p r.level r.keys)
-          in-swept =
-              aimed-accepted s found true p.before r.level r.keys (insert-swept S y R z fresh few r.level at_high (taken ∙ ap some (sym level-is))) refl (known.keys low)
-              at_home (λ _. found.before fresh) (window.1 ∙ ap some (sym level-is) ∙ level-some r.level low)
+          pub in-swept : (d c : Climb) → c ≡ unwrap_or r d → Comes (Insert y) (key_aim true y p.before p c.level c.keys)
+          in-swept d c e =
+              let is : r ≡ Some c = found-some.1 ∙ ap (λ (v : Climb). Some v) (sym (e ∙ ap (λ (o : Option Climb). unwrap_or o d) found-some.1)) in
+              let here : Climbed S (home y ss) (put_in y ss) (Some c) = subst (λ (o : Option Climb). Climbed S (home y ss) (put_in y ss) o) is known in
+              let same : some c.level ≡ some window.0 = sym here.0 ∙ taken in
+              let level : c.level ≡ window.0 = cc in
+              let low : 1 ≤ c.level = omega (arith, window.2.from) in
+              aimed-accepted s found true p.before c.level c.keys (insert-swept S y R z fresh few c.level at_high here.0) refl here.1
+              at_home (λ _. found.before fresh) (window.1 ∙ sym same ∙ level-some c.level low)

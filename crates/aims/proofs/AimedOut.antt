@@ -2,8 +2,8 @@
 use mathlib.Core.Path.{◌≡◌, refl, sym, ap, ap₂, subst, ◌∙◌}
 use mathlib.Core.Bool.{true, false, true≢false}
 use mathlib.Core.Logic.{◌≢◌}
-use mathlib.Core.Option
-use mathlib.Core.Option.{Option, none, some}
+use mathlib.Core.Option.{none}
+use Rattle.std.specs.Prelude.{Option, None, Some}
 use mathlib.Core.List.{List, [], Memᴰ as Mem}
 use Prim.Native.Nat.{ℕ, ◌+◌, ◌-◌, ◌^◌, ◌≤◌, ◌<◌}
 use native.Mathlib.Omega.{arith}
@@ -21,7 +21,7 @@ use Rattle.rules.specs.declared.Refusal.TheVariants.{KeyZero, KeyAbsent}
 use Rattle.rules.specs.declared.Request.{Request}
 use Rattle.rules.specs.declared.Request.TheVariants.{Delete}
 use Rattle.rules.specs.Shares.{Shares}
-use Rattle.rules.specs.Placing.{Room, cut_from, chosen, delete_level}
+use Rattle.rules.specs.Placing.{Room, cut_from, delete_level}
 use Rattle.rules.specs.Calls.{room_of}
 use Rattle.demands.proofs.Sharing.Climb.{climb_is}
 use Rattle.demands.proofs.Sweeping.SweptWindow.{length-cut-in}
@@ -38,15 +38,6 @@ use Rattle.aims.specs.Aims.{Stands, refused_aim, level_at, Aimed}
 use Rattle.aims.proofs.Standing.{shows-stands, segments-stand, right-stands}
 use Rattle.aims.proofs.Places.{place-held, place_at, place-rising}
 use Rattle.aims.proofs.Answers.{level-some, aimed-refused, aimed-accepted, key_aim}
-
--- a number that stands for an option: 0 for none
-is_some : (o : Option ℕ) (l : ℕ) → l ≡ Option.get_or o 0 → 1 ≤ l → o ≡ some l
-is_some none l e p = absurd (omega arith)
-is_some (some k) l e p = ap some (sym e)
-
-is_none : (o : Option ℕ) → ((k : ℕ) → o ≡ some k → 1 ≤ k) → Option.get_or o 0 ≡ 0 → o ≡ none
-is_none none f e = refl
-is_none (some k) f e = absurd (omega (arith, f k refl))
 
 module _ {slots : List ℕ} {F : Forecast} {k : Shape} {n : ℕ} (s : Stands slots F k n) where
   abbrev ss : Segments
@@ -123,7 +114,7 @@ module _ {slots : List ℕ} {F : Forecast} {k : Shape} {n : ℕ} (s : Stands slo
       out-keeps h = rw (le-ltb (length (cut y (get_or ss (segment_of ss y) []))) (S.low 0) (omega (arith, shorter, s.shape.low))) refl
 
       -- WHAT A CLIMB FINDS, where it does not
-      module _ (few : p.place.held ≤ k.low) {bounds table : List ℕ} (index : Indexed ss slots bounds table) {r : Climb}
+      module _ (few : p.place.held ≤ k.low) {bounds table : List ℕ} (index : Indexed ss slots bounds table) (r : Option Climb)
           (climbed : (ts : Segments) (new : List ℕ) → length ts ≡ 2 ^ k.height → table ≡ table_of k.height ts → length new + 1 ≡ length (get_or ts p.place.segment []) + 0
           → Climbed (shares_at k) p.place.segment (set ts p.place.segment new) r) where
         under : length (cut y (get_or ss (segment_of ss y) [])) < S.low 0
@@ -136,20 +127,22 @@ module _ {slots : List ℕ} {F : Forecast} {k : Shape} {n : ℕ} (s : Stands slo
             (cut y (get_or ss (segment_of ss y) [])) (omega (arith, length-cut-in y ss (shows-stands s).listed mem))
 
         -- no window
-        pub out-unswept : r.level ≡ 0 → delete_level S y ss ≡ none
+        pub out-unswept : r ≡ None → delete_level S y ss ≡ none
         unfolding delete_level
         out-unswept e =
             rw (lt-ltb (length (cut y (get_or ss (segment_of ss y) []))) (S.low 0) under)
-            (is_none (chosen S (segment_of ss y) (cut_from y ss)) (λ l c. (((climb_is S (segment_of ss y) (cut_from y ss)).0 l).0 c).from) (sym known.level ∙ e))
+            (subst (λ (o : Option Climb). Climbed S (segment_of ss y) (cut_from y ss) o) e known)
 
         -- a window: its keys
-        module _ (level : 1 ≤ r.level) where
-          taken : chosen S (segment_of ss y) (cut_from y ss) ≡ some r.level
-          taken = is_some (chosen S (segment_of ss y) (cut_from y ss)) r.level known.level level
+        module _ {c : Climb} (e : r ≡ Some c) where
+          taken : Climbed S (segment_of ss y) (cut_from y ss) (Some c)
+          taken = subst (λ (o : Option Climb). Climbed S (segment_of ss y) (cut_from y ss) o) e known
 
-          swept-level : delete_level S y ss ≡ level_at r.level
+          swept-level : delete_level S y ss ≡ level_at c.level
           unfolding delete_level
-          swept-level = rw (lt-ltb (length (cut y (get_or ss (segment_of ss y) []))) (S.low 0) under) (taken ∙ level-some r.level level)
+          swept-level =
+              rw (lt-ltb (length (cut y (get_or ss (segment_of ss y) []))) (S.low 0) under)
+              (taken.0 ∙ level-some c.level (((climb_is S (segment_of ss y) (cut_from y ss)).0 c.level).0 taken.0).from)
 
-          pub out-swept : Comes (Delete y) (key_aim false y 0 p r.level r.keys)
-          out-swept = aimed-accepted s found false 0 r.level r.keys (delete-swept S y R z live r.level under taken) refl (known.keys level) at-seat no-before swept-level
+          pub out-swept : Comes (Delete y) (key_aim false y 0 p c.level c.keys)
+          out-swept = aimed-accepted s found false 0 c.level c.keys (delete-swept S y R z live c.level under taken.0) refl taken.1 at-seat no-before swept-level

@@ -1,7 +1,7 @@
 -- What a request comes to, by the rules' outcome of it: refused, or accepted.
 use mathlib.Core.Path.{◌≡◌, refl, sym, ap, ◌∙◌}
 use mathlib.Core.Bool.{Bool, true}
-use mathlib.Core.Option.{some}
+use mathlib.Core.Option.{none, some}
 use mathlib.Core.List.{List}
 use Prim.Native.Nat.{ℕ, zero, suc, ◌≤◌}
 use native.Mathlib.Omega.{arith}
@@ -31,6 +31,10 @@ use Rattle.aims.proofs.Places.{place-held, place_at}
 pub level-some : (l : ℕ) → 1 ≤ l → some l ≡ level_at l
 level-some zero h = absurd (omega arith)
 level-some (suc l) h = refl
+
+-- none is not some
+pub none-some : {l : ℕ} → none ≡ some l → ⊥
+none-some e = cc
 
 -- refused
 pub aimed-refused : (S : Shares) (q : Request) (R : Room) (x : Refusal) → outcome S q R ≡ refused_by (refusal_number x) R → Aimed S q R (refused_aim x)

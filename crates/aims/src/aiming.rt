@@ -7,6 +7,7 @@ ghost use Rattle.rules.specs.Calls.{room_of};
 ghost use Rattle.aims.specs.Aims.{Known, Stands, refused_aim, Aimed};
 
 use crate::Aim;
+use climbs::Climb;
 use rules::{Refusal, Request, Verdict};
 use shares::Shape;
 
@@ -59,7 +60,9 @@ fn aim_in(list: &[u64], table: &[usize], bounds: &[u64], shape: Shape, key: u64,
             moves: held - at + 1,
         };
     }
-    let found = climbs::climbing::climb(table, shape, segment, 1, 0);
+    // There is a window, since the list is not full.
+    let none = Climb { level: 0, keys: 0 };
+    let found = climbs::climbing::climb(table, shape, segment, 1, 0).unwrap_or(none);
     Aim {
         verdict: Verdict::Accepted,
         grows: true,
@@ -97,8 +100,7 @@ fn aim_out(
     let at = place.at;
     let segment = place.segment;
     if held <= shape.low {
-        let found = climbs::climbing::climb(table, shape, segment, 0, 1);
-        if found.level != 0 {
+        if let Some(found) = climbs::climbing::climb(table, shape, segment, 0, 1) {
             return Aim {
                 verdict: Verdict::Accepted,
                 grows: false,

@@ -1,14 +1,12 @@
 -- The climb by the table, level by level: limits, the entry that is read, and how it ends.
-use mathlib.Core.Path.{◌≡◌, refl, sym, ap, ◌∙◌}
+use mathlib.Core.Path.{◌≡◌, refl, ap, ◌∙◌}
 use mathlib.Core.Bool.{true, false, not}
-use mathlib.Core.Option
-use mathlib.Core.Option.{Option}
+use Rattle.std.specs.Prelude.{None, Some}
 use mathlib.Core.List.{List, []}
-use Prim.Native.Nat.{ℕ, ◌+◌, ◌-◌, ◌*◌, ◌^◌, ◌≤◌, ◌<◌}
+use Prim.Native.Nat.{ℕ, ◌+◌, ◌-◌, ◌^◌, ◌≤◌, ◌<◌}
 use native.Mathlib.Decide.{dec_lt}
 use native.Mathlib.Omega.{arith}
-use lib.Dec.{T, leb}
-use borrow.Author.Tests.{lt-leb, le-leb}
+use lib.Dec.{T}
 use lib.ListN.{length, get_or, set}
 use Rattle.lists.proofs.Search.{first-is, first-none}
 use Rattle.slots.specs.Segments.{Segments}
@@ -21,13 +19,6 @@ use Rattle.levels.proofs.Tables.{length-table, table_is, table-most}
 use Rattle.rules.specs.Shares.{Shares, within}
 use Rattle.rules.specs.Placing.{chosen}
 use Rattle.climbs.specs.Climbs.{Tabled, Climbed}
-
--- LIMITS by the numbers of the shape
-pub within_low : (S : Shares) (l size low n : ℕ) → size ≡ 2 ^ l → low ≡ S.low l → n < size * low → false ≡ within S l n
-within_low S l size low n e f k = rw (← e, ← f, lt-leb (size * low) n k) refl
-
-pub within-high : (S : Shares) (l size low high n : ℕ) → size ≡ 2 ^ l → low ≡ S.low l → high ≡ S.high l → size * low ≤ n → leb n (size * high) ≡ within S l n
-within-high S l size low high n e f g k = rw (← e, ← f, ← g, le-leb (size * low) n k) refl
 
 -- AN ENTRY on the way up: where it stands, what it counts, and with the request done
 module _ {h s gone : ℕ} {t : List ℕ} (x : Tabled h s gone t) (k : s < 2 ^ h) (l : ℕ) (p : l ≤ h) where
@@ -53,32 +44,23 @@ module _ {h s gone : ℕ} {t : List ℕ} (x : Tabled h s gone t) (k : s < 2 ^ h)
       → get_or t (entry_of (2 ^ h) s l) 0 + grown - gone ≡ count l s (set ss s new)
   way-count ss new grown e r g = omega (arith, counts ss e r, count-set-in ss s new (omega arith) l s refl)
 
--- NO WINDOW from level 1 to l is within limits
+-- NO WINDOW below level l is within limits
 abbrev pub Tried : Shares → ℕ → Segments → ℕ → Type 0
-Tried S s ms l = (j : ℕ) → 1 ≤ j → j ≤ l → T (not (within S j (count j s ms)))
+Tried S s ms l = (j : ℕ) → 1 ≤ j → j < l → T (not (within S j (count j s ms)))
 
 -- none so far, and this one not either
-pub tried-more : (S : Shares) (s : ℕ) (ms : Segments) (l n : ℕ) → n ≡ count (l + 1) s ms → false ≡ within S (l + 1) n → Tried S s ms l → Tried S s ms (l + 1)
-tried-more S s ms l n e f t j p q = elim (dec_lt l j) [
-  | yes k ↦ let i : j ≡ l + 1 = omega arith in rw (i, ← e, ← f) tt
-  | no k ↦ t j p (omega arith)
-]
+pub tried-more : (S : Shares) (s : ℕ) (ms : Segments) (l n : ℕ) → n ≡ count l s ms → false ≡ within S l n → Tried S s ms l → Tried S s ms (l + 1)
+tried-more S s ms l n e f t j p q = elim (dec_lt j l) [ yes k ↦ t j p k | no k ↦ let i : j ≡ l = omega arith in rw (i, ← e, ← f) tt ]
 
 -- THE END
 -- this one is the first within limits
-pub climbed-here : (S : Shares) (s : ℕ) (ms : Segments) (l n : ℕ) → l < S.height → n ≡ count (l + 1) s ms → true ≡ within S (l + 1) n → Tried S s ms l
-    → Climbed S s ms (record { level = l + 1; keys = n })
+pub climbed-here : (S : Shares) (s : ℕ) (ms : Segments) (l n : ℕ) → 1 ≤ l → l ≤ S.height → n ≡ count l s ms → true ≡ within S l n → Tried S s ms l
+    → Climbed S s ms (Some (record { level = l; keys = n }))
 unfolding chosen
-climbed-here S s ms l n k e t tried = record {
-  level = ap (λ (r : Option ℕ). Option.get_or r 0)
-      (sym (first-is (λ j. within S j (count j s ms)) 1 S.height (l + 1) (omega arith, rw (← e, ← t) tt, λ j p q. tried j p (omega arith)) (omega arith)));
-  keys = λ _. e;
-}
+climbed-here S s ms l n o k e t tried =
+    (first-is (λ j. within S j (count j s ms)) 1 S.height l (o, rw (← e, ← t) tt, tried) (omega arith), e)
 
 -- there is none
-pub climbed-none : (S : Shares) (s : ℕ) (ms : Segments) → Tried S s ms S.height → Climbed S s ms (record { level = 0; keys = 0 })
+pub climbed-none : (S : Shares) (s : ℕ) (ms : Segments) → Tried S s ms (S.height + 1) → Climbed S s ms None
 unfolding chosen
-climbed-none S s ms tried = record {
-  level = ap (λ (r : Option ℕ). Option.get_or r 0) (sym (first-none (λ j. within S j (count j s ms)) 1 S.height (λ j p q. tried j p (omega arith))));
-  keys = λ k. absurd (omega arith);
-}
+climbed-none S s ms tried = first-none (λ j. within S j (count j s ms)) 1 S.height (λ j p q. tried j p (omega arith))

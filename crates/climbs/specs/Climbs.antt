@@ -1,6 +1,6 @@
--- What a climb reads, and what it finds: the level of the window to sweep, and its keys.
-use Rattle.std.specs.Prelude.{ℕ, ◌^◌, ◌≤◌, ◌≡◌, List, [], length, get_or}
-use Rattle.std.proofs.Math.Option
+-- What a climb reads, and what it finds: the window to sweep, by its level, and its keys.
+use Rattle.std.specs.Prelude.{ℕ, ◌^◌, ◌≤◌, ◌≡◌, List, [], length, get_or, Option, None, Some}
+use Rattle.std.proofs.Math.Option.{none, some}
 use Rattle.slots.specs.Segments.{Segments, keys}
 use Rattle.slots.specs.Windows.{count}
 use Rattle.levels.specs.Tables.{table_of}
@@ -16,7 +16,7 @@ pub record Tabled (h s gone : ℕ) (table : List ℕ) : Type 0 where
   pub right : table ≡ table_of h segments
   pub there : gone ≤ length (get_or segments s [])
 
--- ms are the segments with the request done in segment s. Level 0 stands for no window.
-pub record Climbed (S : Shares) (s : ℕ) (ms : Segments) (r : Climb) : Type 0 where
-  pub level : r.level ≡ Option.get_or (chosen S s ms) 0
-  pub keys : 1 ≤ r.level → r.keys ≡ count r.level s ms
+-- ms are the segments with the request done in segment s: the window that is chosen of them, with its keys, or none.
+abbrev pub Climbed : Shares → ℕ → Segments → Option Climb → Type 0
+Climbed S s ms None = chosen S s ms ≡ none
+Climbed S s ms (Some c) = (chosen S s ms ≡ some c.level) × (c.keys ≡ count c.level s ms)

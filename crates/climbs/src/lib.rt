@@ -3,8 +3,8 @@
 
 pub mod climbing;
 
-// The level of the window to sweep, 0 for none, and the keys in it.
-#[derive(Clone, Copy)]
+// A window to sweep: its level, from 1 upward, and the keys in it.
+#[derive(Clone, Copy, PartialEq, Eq, Debug)]
 pub struct Climb {
     pub level: usize,
     pub keys: usize,

@@ -29,10 +29,10 @@ pub returns-then-held-shape : goal.returns-then-held-shape
 returns-then-held-shape c F s =
     in-shifted s c.if-key-eq0.false c.spot-spot.ensures c.if-place.false c.if-shape-keys.false c.if-held-shape.true
 
-pub climb-found-requires : goal.climb-found-requires
-climb-found-requires c =
+pub climb-requires : goal.climb-requires
+climb-requires c =
     climb-asks c.requires (place_in c.requires.stands c.spot-spot.ensures.place) (omega arith) (omega arith)
 
 pub returns : goal.returns
 returns c F s =
-    in-swept s c.if-key-eq0.false c.spot-spot.ensures c.if-place.false c.if-shape-keys.false c.if-held-shape.false c.requires.index c.climb-found.ensures.window
+    in-swept s c.if-key-eq0.false c.spot-spot.ensures c.if-place.false c.if-shape-keys.false c.if-held-shape.false c.requires.index c.climb.result c.climb.ensures.window _ _ c.unwrap_or-found.ensures

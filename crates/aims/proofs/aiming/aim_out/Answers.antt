@@ -23,13 +23,13 @@ under : (c : Else-not-place) → c.spot-spot.result.place.at < c.spot-spot.resul
 under c =
     out-under c.requires.stands c.if-key-eq0.false c.spot-spot.ensures (not-false _ c.if-not-place.false)
 
-pub climb-found-requires : goal.climb-found-requires
-climb-found-requires c =
-    climb-asks c.requires (place_in c.requires.stands c.spot-spot.ensures.place) (omega (arith, place-held c.requires.stands c.spot-spot.ensures.place, under (goal.at.climb-found-requires c).Else-not-place)) (omega arith)
+pub climb-requires : goal.climb-requires
+climb-requires c =
+    climb-asks c.requires (place_in c.requires.stands c.spot-spot.ensures.place) (omega (arith, place-held c.requires.stands c.spot-spot.ensures.place, under (goal.at.climb-requires c).Else-not-place)) (omega arith)
 
-pub returns-then-found-ne0 : goal.returns-then-found-ne0
-returns-then-found-ne0 c F s =
-    out-swept s c.if-key-eq0.false c.spot-spot.ensures (not-false _ c.if-not-place.false) (omega (arith, c.if-held-shape.true)) c.requires.index c.climb-found.ensures.window (omega (arith, c.if-found-ne0.true))
+pub returns-in-Some : goal.returns-in-Some
+returns-in-Some c F s =
+    out-swept s c.if-key-eq0.false c.spot-spot.ensures (not-false _ c.if-not-place.false) (omega (arith, c.if-held-shape.true)) c.requires.index c.climb.result c.climb.ensures.window c.in-Some.is
 
 pub overflow_sub-result : goal.overflow_sub-result
 overflow_sub-result c = omega (arith, under (goal.at.overflow_sub-result c).Else-not-place)
@@ -42,7 +42,7 @@ pub returns : goal.returns
 returns c F s =
     out-shifted s c.if-key-eq0.false c.spot-spot.ensures (not-false _ c.if-not-place.false)
     (elim c.if-held-shape.branch [
-      | goal.then-held-shape+else-found-ne0 w ↦
-          out-unswept s c.if-key-eq0.false c.spot-spot.ensures (not-false _ c.if-not-place.false) (omega (arith, w.if-held-shape.true)) c.requires.index w.climb-found.ensures.window w.if-found-ne0.false
+      | goal.then-held-shape+in_default w ↦
+          out-unswept s c.if-key-eq0.false c.spot-spot.ensures (not-false _ c.if-not-place.false) (omega (arith, w.if-held-shape.true)) c.requires.index w.climb.result w.climb.ensures.window w.in_default.is
       | goal.else-held-shape w ↦ out-keeps s c.if-key-eq0.false c.spot-spot.ensures (not-false _ c.if-not-place.false) w.if-held-shape.false
     ])

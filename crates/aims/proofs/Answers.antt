@@ -1,4 +1,5 @@
 -- What a request comes to, by the rules' outcome of it: refused, or accepted.
+use Rattle.std.proofs.Common.{Err, Ok}
 use mathlib.Core.Path.{◌≡◌, refl, sym, ap, ◌∙◌}
 use mathlib.Core.Bool.{Bool, true}
 use mathlib.Core.Option.{none, some}
@@ -10,10 +11,9 @@ use Rattle.slots.specs.Keys.{predecessor}
 use Rattle.forecast.specs.declared.Forecast.{Forecast}
 use Rattle.rules.specs.declared.Refusal.{Refusal}
 use Rattle.rules.specs.declared.Refusal.TheVariants.{BadRecord}
-use Rattle.rules.specs.declared.Verdict.TheVariants.{Refused, Accepted}
 use Rattle.rules.specs.declared.Request.{Request}
 use Rattle.rules.specs.declared.Request.TheVariants.{Bad}
-use Rattle.rules.specs.Refusals.{refusal_number, verdict_number}
+use Rattle.rules.specs.Refusals.{refusal_number, verdict_number, Verdict}
 use Rattle.rules.specs.Shares.{Shares}
 use Rattle.rules.specs.Placing.{Room, Outcome, refused_by, outcome}
 use Rattle.rules.specs.Calls.{room_of}
@@ -45,7 +45,7 @@ aimed-refused S q R x e = record {
   work = λ t. absurd (not-accepted t);
 }
   where
-    not-accepted : Refused x ≡ Accepted → ⊥
+    not-accepted : ◌≡◌ {A = Verdict} (Err x) (Ok tt) → ⊥
     not-accepted t = let z : refusal_number x ≡ 0 = ap verdict_number t in omega (arith, refusal-some x)
 
 -- a bad record
@@ -56,7 +56,7 @@ aimed-bad S R = aimed-refused S Bad R BadRecord refl
 -- accepted: a key put in, or taken out, where a search for it ended
 abbrev pub key_aim : Bool → ℕ → ℕ → Spot → ℕ → ℕ → Aim
 key_aim grows y before p level moves = record {
-  verdict = Accepted;
+  verdict = Ok tt;
   grows = grows;
   key = y;
   before = before;

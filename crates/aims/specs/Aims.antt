@@ -1,11 +1,10 @@
 -- What a request comes to, by the rules, on a list and forecast that have passed their check.
-use Rattle.std.specs.Prelude.{ℕ, zero, suc, ◌≡◌, Bool, true, false, List, [], length, get_or}
+use Rattle.std.specs.Prelude.{ℕ, zero, suc, ◌≡◌, Bool, true, false, List, [], length, get_or, Err, Ok}
 use Rattle.std.proofs.Math.Option.{Option, none, some}
 use Rattle.slots.specs.Segments.{Segments, live, height_of, segments_of}
 use Rattle.slots.specs.Keys.{below, predecessor, segment_of}
 use Rattle.forecast.specs.declared.Forecast.{Forecast}
 use Rattle.rules.specs.declared.Refusal.{Refusal}
-use Rattle.rules.specs.declared.Verdict.TheVariants.{Refused, Accepted}
 use Rattle.rules.specs.declared.Request.{Request}
 use Rattle.rules.specs.Refusals.{verdict_number}
 use Rattle.rules.specs.Shares.{Shares}
@@ -32,7 +31,7 @@ pub record Known (slots bounds table : List ℕ) (k : Shape) (n : ℕ) : Type 0 
   pub index : Indexed (segments_of slots) slots bounds table
 
 abbrev pub refused_aim : Refusal → Aim
-refused_aim x = record { verdict = Refused x; grows = false; key = 0; before = 0; segment = 0; at = 0; held = 0; level = 0; moves = 0 }
+refused_aim x = record { verdict = Err x; grows = false; key = 0; before = 0; segment = 0; at = 0; held = 0; level = 0; moves = 0 }
 
 -- Of the request that puts a key in, or takes it out: the segment that it falls in, and the level that it sweeps.
 abbrev pub seat_for : Bool → ℕ → Segments → ℕ
@@ -61,5 +60,5 @@ pub record Accepts (S : Shares) (R : Room) (r : Aim) : Type 0 where
 pub record Aimed (S : Shares) (q : Request) (R : Room) (r : Aim) : Type 0 where
   pub number : verdict_number r.verdict ≡ (outcome S q R).answer.number
   pub moves : r.moves ≡ (outcome S q R).answer.moves
-  pub request : r.verdict ≡ Accepted → q ≡ asked r.grows r.key
-  pub work : r.verdict ≡ Accepted → Accepts S R r
+  pub request : r.verdict ≡ Ok tt → q ≡ asked r.grows r.key
+  pub work : r.verdict ≡ Ok tt → Accepts S R r

@@ -8,7 +8,7 @@ ghost use Rattle.aims.specs.Aims.{Known, Stands, refused_aim, Aimed};
 
 use crate::Aim;
 use climbs::Climb;
-use rules::{Refusal, Request, Verdict};
+use rules::{Refusal, Request};
 use shares::Shape;
 
 // A request that is refused.
@@ -16,7 +16,7 @@ fn refuse(refusal: Refusal) -> Aim
     ensures { result ≡ refused_aim refusal }
 {
     Aim {
-        verdict: Verdict::Refused(refusal),
+        verdict: Err(refusal),
         grows: false,
         key: 0,
         before: 0,
@@ -49,7 +49,7 @@ fn aim_in(list: &[u64], table: &[usize], bounds: &[u64], shape: Shape, key: u64,
     let segment = place.segment;
     if held < shape.high {
         return Aim {
-            verdict: Verdict::Accepted,
+            verdict: Ok(()),
             grows: true,
             key,
             before: spot.before,
@@ -64,7 +64,7 @@ fn aim_in(list: &[u64], table: &[usize], bounds: &[u64], shape: Shape, key: u64,
     let none = Climb { level: 0, keys: 0 };
     let found = climbs::climbing::climb(table, shape, segment, 1, 0).unwrap_or(none);
     Aim {
-        verdict: Verdict::Accepted,
+        verdict: Ok(()),
         grows: true,
         key,
         before: spot.before,
@@ -102,7 +102,7 @@ fn aim_out(
     if held <= shape.low {
         if let Some(found) = climbs::climbing::climb(table, shape, segment, 0, 1) {
             return Aim {
-                verdict: Verdict::Accepted,
+                verdict: Ok(()),
                 grows: false,
                 key,
                 before: 0,
@@ -115,7 +115,7 @@ fn aim_out(
         }
     }
     Aim {
-        verdict: Verdict::Accepted,
+        verdict: Ok(()),
         grows: false,
         key,
         before: 0,

@@ -1,4 +1,5 @@
 -- A single insert or delete is what the check refuses, or what a run of its one record comes to.
+use Rattle.std.proofs.Common.{Err, Ok}
 use mathlib.Core.Path.{◌≡◌, refl, sym, ap, ap₂, ◌∙◌}
 use mathlib.Core.Bool.{Bool, true, false, not, ◌&&◌}
 use mathlib.Core.Logic.{◌≢◌}
@@ -15,11 +16,9 @@ use Rattle.levels.specs.Tables.{table_of}
 use Rattle.forecast.specs.declared.Forecast.{Forecast}
 use Rattle.forecast.specs.Cells.{forecast_of}
 use Rattle.forecast.specs.Tidy.{Roomy}
-use Rattle.rules.specs.declared.Verdict.{Verdict}
-use Rattle.rules.specs.declared.Verdict.TheVariants.{Refused, Accepted}
 use Rattle.rules.specs.declared.Request.TheVariants.{Insert, Delete}
 use Rattle.rules.specs.declared.Tally.{Tally}
-use Rattle.rules.specs.Refusals.{verdict_number}
+use Rattle.rules.specs.Refusals.{verdict_number, Verdict}
 use Rattle.rules.specs.Profiles.{profile_of}
 use Rattle.rules.specs.Shares.{Shares, capacity, sparse_below}
 use Rattle.rules.specs.Placing.{Room, Answer, Outcome, insert_key, delete_key, outcome}
@@ -72,16 +71,16 @@ left o = length (keys o.room.segments)
 sparse-is : (S : Shares) (b : Bool) (y : ℕ) (R : Room) (v : Verdict) → verdict_number v ≡ (outcome S (asked b y) R).answer.number
     → not b && is_accepted v && ltb (left (outcome S (asked b y) R)) (sparse_below S) ≡ (outcome S (asked b y) R).answer.sparse
 sparse-is S true y R v e = sym (outcome-dense S y R)
-sparse-is S false y R (Refused x) e =
+sparse-is S false y R (Err x) e =
     sym (ap (λ (o : Outcome). o.answer.sparse) (refused-is S (Delete y) R (omega (arith, e, refusal-some x))))
-sparse-is S false y R Accepted e =
+sparse-is S false y R (Ok x) e =
     let d : Deletes S y R = delete-accepted S y R (eq→eqb _ 0 (sym e)) in
     rw d.is (sym (key-sparse S y R))
 
 -- a verdict with some number
 not-accepted : (v : Verdict) → verdict_number v ≢ 0 → is_accepted v ≡ false
-not-accepted (Refused x) n = refl
-not-accepted Accepted n = absurd (n refl)
+not-accepted (Err x) n = refl
+not-accepted (Ok x) n = absurd (n refl)
 
 -- the reply to what was worked
 abbrev reply_of : Worked → Bool → Reply

@@ -3,8 +3,7 @@ use Rattle.std.specs.Prelude.{ℕ, ◌≤◌, ◌≡◌, Bool, false, not, ◌&&
 use Rattle.slots.specs.Segments.{height_of}
 use Rattle.forecast.specs.declared.Forecast.{Forecast}
 use Rattle.rules.specs.declared.Request.{Request}
-use Rattle.rules.specs.declared.Verdict.{Verdict}
-use Rattle.rules.specs.Refusals.{verdict_number}
+use Rattle.rules.specs.Refusals.{verdict_number, Verdict}
 use Rattle.rules.specs.Profiles.{profile_of}
 use Rattle.rules.specs.Shares.{shares, sparse_below}
 use Rattle.rules.specs.Placing.{Answer}

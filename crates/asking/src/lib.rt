@@ -24,7 +24,7 @@ fn is_sparse(profile: u64, grows: bool, verdict: Verdict, keys: usize, long: usi
     if grows {
         return false;
     }
-    if let Verdict::Refused(_) = verdict {
+    if let Err(_) = verdict {
         return false;
     }
     let height = places::heights::height_of(long);

@@ -1,4 +1,5 @@
 -- What a listing promises that tells a refusal, and one where the order is kept.
+use Rattle.std.proofs.Common.{Err, Ok}
 use mathlib.Core.Path.{◌≡◌, sym, ap, ap₂, ◌∙◌, subst}
 use mathlib.Core.Bool.{true}
 use mathlib.Core.Logic.{◌≢◌}
@@ -11,9 +12,7 @@ use Rattle.slots.specs.Shown.{Tallied}
 use Rattle.rules.specs.declared.Profile.{Profile}
 use Rattle.rules.specs.Shares.{Shares, shares}
 use Rattle.rules.specs.declared.Refusal.{Refusal}
-use Rattle.rules.specs.declared.Verdict.{Verdict}
-use Rattle.rules.specs.declared.Verdict.TheVariants.{Refused, Accepted}
-use Rattle.rules.specs.Refusals.{refusal_number, verdict_number}
+use Rattle.rules.specs.Refusals.{refusal_number, verdict_number, Verdict}
 use Rattle.demands.proofs.Refusals.Told.{refusal-some}
 use Rattle.shares.specs.declared.Shape.{Shape}
 use Rattle.shares.specs.Rows.{shares_at, Fetched}
@@ -22,7 +21,7 @@ use Rattle.checks.specs.Listings.{refusing, Looked, Counting}
 use Rattle.checks.proofs.Kept.{counts-kept}
 
 -- A VERDICT that refuses has some number
-pub refused-some : (v : Verdict) (x : Refusal) → v ≡ Refused x → verdict_number v ≢ 0
+pub refused-some : (v : Verdict) (x : Refusal) → v ≡ Err x → verdict_number v ≢ 0
 refused-some v x q z = let e : verdict_number v ≡ refusal_number x = ap verdict_number q in omega (arith, refusal-some x)
 
 -- A SHAPE names its profile and height
@@ -31,10 +30,10 @@ refetched p h k e f = subst (λ (S : Shares). Fetched S k) (sym (ap₂ {C = Shar
 
 -- A LISTING that tells a refusal: it promises nothing of the counts
 module _ (profile : ℕ) (slots : List ℕ) (x : Refusal) (r : Listing) (q : r ≡ refusing x) where
-  v : r.verdict ≡ Refused x
+  v : r.verdict ≡ Err x
   v = ap (λ (l : Listing). l.verdict) q
 
-  differ : r.verdict ≡ Accepted → ⊥
+  differ : r.verdict ≡ Ok tt → ⊥
   differ a = refused-some r.verdict x v (ap verdict_number a)
 
   pub looked-refused : (n : ℕ) → n ≡ refusal_number x → Looked profile slots n r

@@ -1,4 +1,5 @@
 -- The table, where nothing was found before it: by the counts of the segments it is right, or refused by 14.
+use Rattle.std.proofs.Common.{Ok}
 use mathlib.Core.Path.{◌≡◌, refl, sym, ap, ◌∙◌}
 use mathlib.Core.Bool.{Bool, true, false}
 use mathlib.Core.List.{List, []}
@@ -16,7 +17,6 @@ use Rattle.levels.specs.Tables.{table_of, same}
 use Rattle.levels.proofs.Same.{same→eq}
 use Rattle.judging.specs.Answers.{Answers}
 use Rattle.forecast.specs.declared.Forecast.{Forecast}
-use Rattle.rules.specs.declared.Verdict.TheVariants.{Accepted}
 use Rattle.rules.specs.declared.Refusal.TheVariants.{WrongTable}
 use Rattle.rules.specs.Refusals.{verdict_number}
 use Rattle.rules.specs.Lent.{Lent, lend, right_table}
@@ -34,7 +34,7 @@ renumbered n e look = record { number = look.number ∙ e; named = look.named; h
 
 module _
     (profile : ℕ) (slots table : List ℕ) (m n : ℕ) (r : Listing) (counts : List ℕ) (look : Looked profile slots m r) (list : m ≡ 0 → check_list profile slots ≡ 0) (e : n ≡ length slots / 64)
-    (counting : Counting slots r counts) (a : r.verdict ≡ Accepted)
+    (counting : Counting slots r counts) (a : r.verdict ≡ Ok tt)
   where
     none : m ≡ 0
     none = sym look.number ∙ ap verdict_number a

@@ -23,7 +23,7 @@ fn refuse(refusal: Refusal) -> Listing
     ensures { result ≡ refusing refusal }
 {
     Listing {
-        verdict: Verdict::Refused(refusal),
+        verdict: Err(refusal),
         shape: shares::blank(),
         keys: 0,
     }
@@ -57,7 +57,7 @@ fn look_over(profile: u64, list: &[u64], cards: &[u32], counts: &mut [usize]) ->
         return refuse(Refusal::TooManyKeys);
     }
     Listing {
-        verdict: Verdict::Accepted,
+        verdict: Ok(()),
         shape,
         keys,
     }
@@ -77,7 +77,7 @@ fn look_over_both(
 {
     let listing = look_over(profile, list, cards, counts);
     let verdict = listing.verdict;
-    if let Verdict::Refused(_) = verdict {
+    if let Err(_) = verdict {
         return listing;
     }
     let shape = listing.shape;
@@ -94,7 +94,7 @@ fn then_table(listing: Listing, table: &[usize], counts: &[usize], n: usize) -> 
     ensures { (profile : ℕ) (slots cards : List ℕ) (m : ℕ) → Looked profile slots m listing → (m ≡ 0 → check_list profile slots ≡ 0) → n ≡ length slots / 64 → Counting slots listing counts.now → Looked profile slots (then_table m (lend slots cards table.now)) result }
 {
     let verdict = listing.verdict;
-    if let Verdict::Refused(_) = verdict {
+    if let Err(_) = verdict {
         return listing;
     }
     if judging::is_right(table, counts, n) {

@@ -4,7 +4,6 @@ ghost use Rattle.answers.specs.Admits.{MakeAdmits, CheckAdmits, LookupAdmits, Sc
 
 use answers::{CheckAnswer, LookupAnswer, MakeReply, ScanAnswer};
 use forecast::Forecast;
-use rules::Verdict;
 
 // Writes 0 in every slot, every card and every entry of the table and gives an empty forecast.
 pub fn make(profile: u64, list: &mut [u64], cards: &mut [u32], table: &mut [usize]) -> MakeReply
@@ -25,8 +24,8 @@ pub fn check(
 {
     let verdict = checks::look_lent(profile, list, cards, table, forecast).verdict;
     match verdict {
-        Verdict::Refused(refusal) => CheckAnswer::Refused(refusal),
-        Verdict::Accepted => CheckAnswer::Passed,
+        Err(refusal) => CheckAnswer::Refused(refusal),
+        Ok(()) => CheckAnswer::Passed,
     }
 }
 
@@ -35,7 +34,7 @@ pub fn lookup(profile: u64, list: &[u64], cards: &[u32], table: &[usize], key: u
     ensures { LookupAdmits profile (lend list.now cards.now table.now) key result }
 {
     let verdict = checks::look_read(profile, list, cards, table).verdict;
-    if let Verdict::Refused(refusal) = verdict {
+    if let Err(refusal) = verdict {
         return LookupAnswer::Refused(refusal);
     }
     looks::look_up(list, cards, table, key)
@@ -54,7 +53,7 @@ pub fn scan(
     ensures { ScanAdmits profile (lend list.now cards.now table.now) from output.old output_cards.old result output.new output_cards.new }
 {
     let verdict = checks::look_read(profile, list, cards, table).verdict;
-    if let Verdict::Refused(refusal) = verdict {
+    if let Err(refusal) = verdict {
         return ScanAnswer::Refused(refusal);
     }
     looks::scan_from(list, cards, table, from, output, output_cards)

@@ -4,7 +4,6 @@ ghost use Rattle.answers.specs.Admits.{InsertAdmits, DeleteAdmits};
 
 use answers::{DeleteAnswer, DeleteReply, InsertAnswer, InsertReply};
 use forecast::Forecast;
-use rules::Verdict;
 
 // Puts a new key in, with its card.
 pub fn insert(
@@ -21,7 +20,7 @@ pub fn insert(
     let reply = asking::ask(profile, list, cards, table, forecast, true, key, card);
     let verdict = reply.verdict;
     let after = reply.forecast;
-    if let Verdict::Refused(refusal) = verdict {
+    if let Err(refusal) = verdict {
         return InsertReply {
             forecast: after,
             answer: InsertAnswer::Refused(refusal),
@@ -48,7 +47,7 @@ pub fn delete(
     let verdict = reply.verdict;
     let after = reply.forecast;
     let moves = reply.moves;
-    if let Verdict::Refused(refusal) = verdict {
+    if let Err(refusal) = verdict {
         return DeleteReply {
             forecast: after,
             answer: DeleteAnswer::Refused(refusal),

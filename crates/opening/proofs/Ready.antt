@@ -1,5 +1,6 @@
 -- What a check that accepts makes ready for work: list and forecast stand, each card is beside its key, and the table and the bounds are
 -- those of the segments.
+use Rattle.std.proofs.Common.{Ok}
 use mathlib.Core.Path.{◌≡◌, sym, ap, ◌∙◌, subst}
 use mathlib.Core.List.{List}
 use Prim.Native.Nat.{ℕ}
@@ -9,7 +10,6 @@ use Rattle.slots.specs.Shown.{Shows}
 use Rattle.seats.specs.Bounds.{bounds_of, Indexed}
 use Rattle.seats.proofs.Indexes.{indexed-start}
 use Rattle.forecast.specs.declared.Forecast.{Forecast}
-use Rattle.rules.specs.declared.Verdict.TheVariants.{Accepted}
 use Rattle.rules.specs.Refusals.{verdict_number}
 use Rattle.rules.specs.Profiles.{number_of}
 use Rattle.rules.specs.Cards.{cards_beside}
@@ -24,7 +24,7 @@ use Rattle.steps.specs.declared.Worked.{Worked}
 use Rattle.steps.specs.Works.{Ends}
 use Rattle.aims.proofs.Standing.{shows-stands}
 
-module _ (profile : ℕ) (L : Lent) (F : Forecast) (r : Listing) (look : LentLooked profile L F r) (a : r.verdict ≡ Accepted) where
+module _ (profile : ℕ) (L : Lent) (F : Forecast) (r : Listing) (look : LentLooked profile L F r) (a : r.verdict ≡ Ok tt) where
   pub ready-passes : check profile L F ≡ 0
   ready-passes = sym look.number ∙ ap verdict_number a
 

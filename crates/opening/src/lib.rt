@@ -5,7 +5,6 @@ ghost use Rattle.rules.specs.Lent.{lend};
 ghost use Rattle.opening.specs.Opens.{Opens};
 
 use forecast::Forecast;
-use rules::Verdict;
 use steps::Worked;
 
 // The check; where it accepts, the bounds of the segments, a buffer for plans, and the records within an allowance of moves. Where it
@@ -23,7 +22,7 @@ pub fn work_lent(
 {
     let listing = checks::look_lent(profile, list, cards, table, forecast);
     let verdict = listing.verdict;
-    if let Verdict::Refused(_) = verdict {
+    if let Err(_) = verdict {
         return Worked {
             forecast,
             tally: tallies::none(),

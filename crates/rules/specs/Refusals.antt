@@ -1,9 +1,7 @@
 -- Document 01, "Refusal numbers", and document 02: the number of each refusal, and 0 where nothing is refused.
-use Rattle.std.specs.Prelude.{ℕ}
+use Rattle.std.specs.Prelude.{ℕ, ⊤, Result, Ok, Err}
 use Rattle.rules.specs.declared.Refusal.{Refusal}
 use Rattle.rules.specs.declared.Refusal.TheVariants.{UnknownProfile, WrongLength, WrongCards, WrongOrder, CardInGap, TooManyKeys, WrongForecast, WrongTable, KeyZero, KeyPresent, KeyAbsent, Full, BadRecord, AllowancePassed}
-use Rattle.rules.specs.declared.Verdict.{Verdict}
-use Rattle.rules.specs.declared.Verdict.TheVariants.{Refused, Accepted}
 
 abbrev pub refusal_number : Refusal → ℕ
 refusal_number UnknownProfile = 15
@@ -21,6 +19,10 @@ refusal_number Full = 8
 refusal_number BadRecord = 9
 refusal_number AllowancePassed = 10
 
+-- Accepted, or refused and why.
+abbrev pub Verdict : Type 0
+Verdict = Result ⊤ Refusal
+
 abbrev pub verdict_number : Verdict → ℕ
-verdict_number (Refused x) = refusal_number x
-verdict_number Accepted = 0
+verdict_number (Err x) = refusal_number x
+verdict_number (Ok x) = 0

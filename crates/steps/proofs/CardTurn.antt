@@ -1,4 +1,5 @@
 -- The cards after one turn of a run: each stands beside its key again, and beside a key put in the card that came with it.
+use Rattle.std.proofs.Common.{Ok}
 use mathlib.Core.Path.{◌≡◌, sym, ◌∙◌, subst}
 use mathlib.Core.Bool.{Bool, true, false}
 use mathlib.Core.List.{List, map}
@@ -8,7 +9,6 @@ use Rattle.lists.proofs.Tests.{eq→eqb}
 use Rattle.forecast.specs.declared.Forecast.{Forecast}
 use Rattle.rules.specs.declared.Request.{Request}
 use Rattle.rules.specs.declared.Request.TheVariants.{Insert}
-use Rattle.rules.specs.declared.Verdict.TheVariants.{Accepted}
 use Rattle.rules.specs.Shares.{Shares}
 use Rattle.rules.specs.Placing.{Room, outcome}
 use Rattle.rules.specs.Calls.{room_of}
@@ -51,7 +51,7 @@ module _ {slots : List ℕ} {F : Forecast} {bounds table : List ℕ} {k : Shape}
   pub cards-accepted : is_accepted r.verdict ≡ true → (slots' cards' : List ℕ) → Carries r v slots cards slots' cards' → cards' ≡ cards_beside then slots'
   cards-accepted e slots' cards' carries = carries (card_in then) (in-gap then) put (cards-refused ∙ beside-map then slots) ∙ sym (beside-map then slots')
     where
-      is : r.verdict ≡ Accepted
+      is : r.verdict ≡ Ok tt
       is = accepted-is r.verdict e
 
       put : r.grows ≡ true → card_in then r.key ≡ v

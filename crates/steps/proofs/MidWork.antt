@@ -1,5 +1,6 @@
 -- The work of a run in the middle of its records: what has been counted keeps within bounds, and the whole run of the rules is the work that
 -- is left.
+use Rattle.std.proofs.Common.{Err, Ok}
 use mathlib.Core.Path.{◌≡◌, refl, sym, ap, ap₂, ◌∙◌, subst}
 use mathlib.Core.Bool.{Bool, true, false, not, ◌&&◌}
 use mathlib.Core.Logic.{inl, inr}
@@ -16,13 +17,11 @@ use Rattle.forecast.specs.declared.Forecast.{Forecast}
 use Rattle.forecast.specs.Cells.{used_cells, forecast_of}
 use Rattle.forecast.specs.Tidy.{Roomy}
 use Rattle.rules.specs.declared.Refusal.TheVariants.{AllowancePassed}
-use Rattle.rules.specs.declared.Verdict.{Verdict}
-use Rattle.rules.specs.declared.Verdict.TheVariants.{Refused, Accepted}
 use Rattle.rules.specs.declared.Request.{Request}
 use Rattle.rules.specs.declared.Request.TheVariants.{Bad}
 use Rattle.rules.specs.declared.Record.{Record}
 use Rattle.rules.specs.declared.Tally.{Tally}
-use Rattle.rules.specs.Refusals.{verdict_number}
+use Rattle.rules.specs.Refusals.{verdict_number, Verdict}
 use Rattle.rules.specs.Shares.{Shares, shares}
 use Rattle.rules.specs.Placing.{Room, Outcome, outcome}
 use Rattle.rules.specs.Profiles.{number_of}
@@ -174,9 +173,9 @@ module _ {L : Lent} {N : Now} (g : Going L N) where
       }
 
   -- at the end of the bytes
-  pub ends-whole : length L.bytes ≤ N.tally.place → Finish L N (back_at N Accepted)
+  pub ends-whole : length L.bytes ≤ N.tally.place → Finish L N (back_at N (Ok tt))
   ends-whole p =
-      ended Accepted
+      ended (Ok tt)
       (ap (λ (l : List Record). work (of L) L.allowance l (room N) g.own N.tally) (ap records_of (drop_of_length-le L.bytes p) ∙ records-nil)
       ∙ work-end (of L) L.allowance (room N) g.own N.tally)
       (λ _ q e. last q e)
@@ -222,9 +221,9 @@ module _ {L : Lent} {N : Now} {r : Aim} (a : AtRecord L N r) where
   nearer e = omega (arith, ap (λ (z : Tally). z.place) e, a.more, size-some (drop N.tally.place L.bytes))
 
   -- before a record that is over the allowance
-  ends-over : L.allowance - t.moves < r.moves → Finish L N (back_at N (Refused AllowancePassed))
+  ends-over : L.allowance - t.moves < r.moves → Finish L N (back_at N (Err AllowancePassed))
   ends-over h =
-      ended g (Refused AllowancePassed) (here ∙ work-over (of L) L.allowance (next L N) _ (room N) g.own t good (omega (arith, h, a.aimed.moves, g.moves)))
+      ended g (Err AllowancePassed) (here ∙ work-over (of L) L.allowance (next L N) _ (room N) g.own t good (omega (arith, h, a.aimed.moves, g.moves)))
       (λ e. absurd (omega (arith, e)))
     where
       good : T (not (is_bad q))

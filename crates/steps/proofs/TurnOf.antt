@@ -8,7 +8,7 @@ use native.Mathlib.Omega.{arith}
 use lib.Dec.{T, ltb, leb, eqb}
 use lib.ListN.{length}
 use borrow.Author.Tests.{lt-ltb}
-use Rattle.std.proofs.Common.{if◌then◌else◌}
+use Rattle.std.proofs.Common.{if◌then◌else◌, Ok}
 use Rattle.lists.proofs.Tests.{either, eq→eqb}
 use Rattle.slots.specs.Segments.{Segments, keys, live, height_of}
 use Rattle.slots.specs.Keys.{member}
@@ -17,7 +17,6 @@ use Rattle.cells.specs.declared.Cell.{Cell}
 use Rattle.forecast.specs.declared.Forecast.{Forecast}
 use Rattle.forecast.specs.Cells.{used_cells, forecast_of}
 use Rattle.forecast.proofs.Laws.{used-forecast_of}
-use Rattle.rules.specs.declared.Verdict.TheVariants.{Accepted}
 use Rattle.rules.specs.declared.Request.{Request}
 use Rattle.rules.specs.declared.Request.TheVariants.{Insert, Delete, Bad}
 use Rattle.rules.specs.declared.Profile.{Profile}
@@ -133,7 +132,7 @@ module _ {slots : List ℕ} {F : Forecast} {bounds table : List ℕ} {k : Shape}
 
   -- ACCEPTED: what acting asks for, and what it leaves
   module _ (e : is_accepted r.verdict ≡ true) where
-    is : r.verdict ≡ Accepted
+    is : r.verdict ≡ Ok tt
     is = accepted-is r.verdict e
 
     same : outcome S q R ≡ outcome_of slots F k r

@@ -30,7 +30,7 @@ pub fn work(
     requires cards_value { cards.old ≡ cards_beside (card_at list.old cards.old) list.old }
     ensures { Ends (number_of shape.profile) list.old (card_at list.old cards.old) forecast requests.now allowance result (lend list.new cards.new table.new) }
 {
-    let mut last = Verdict::Accepted;
+    let mut last = Ok(());
     let mut tally = tallies::none();
     while tally.place < requests.len() {
         let record = records::record_at(requests, tally.place);
@@ -65,7 +65,7 @@ pub fn work(
     Worked {
         forecast,
         tally,
-        stop: Verdict::Accepted,
+        stop: Ok(()),
         last,
         keys,
     }

@@ -1,8 +1,8 @@
 -- What is counted of the records of a run, and what stops it.
-use Rattle.std.specs.Prelude.{ℕ, ◌+◌, ◌-◌, Bool, true, false, not, ◌&&◌, ltb, if◌then◌else◌}
+use Rattle.std.specs.Prelude.{ℕ, ◌+◌, ◌-◌, Bool, true, false, not, ◌&&◌, ltb, if◌then◌else◌, Err, Ok}
 use Rattle.rules.specs.declared.Refusal.{Refusal}
-use Rattle.rules.specs.declared.Verdict.{Verdict}
 use Rattle.rules.specs.declared.Tally.{Tally}
+use Rattle.rules.specs.Refusals.{Verdict}
 use Rattle.rules.specs.Runs.{one}
 use Rattle.aims.specs.declared.Aim.{Aim}
 
@@ -24,16 +24,16 @@ stops_run Refusal.BadRecord = true
 stops_run Refusal.AllowancePassed = true
 
 abbrev pub is_stop : Verdict → Bool
-is_stop (Verdict.Refused x) = stops_run x
-is_stop Verdict.Accepted = false
+is_stop (Err x) = stops_run x
+is_stop (Ok x) = false
 
 abbrev pub is_accepted : Verdict → Bool
-is_accepted (Verdict.Refused x) = false
-is_accepted Verdict.Accepted = true
+is_accepted (Err x) = false
+is_accepted (Ok x) = true
 
 -- What a request comes to where so many moves are left.
 abbrev pub comes_to : ℕ → Aim → Verdict
-comes_to left r = if ltb left r.moves then Verdict.Refused Refusal.AllowancePassed else r.verdict
+comes_to left r = if ltb left r.moves then Err Refusal.AllowancePassed else r.verdict
 
 -- One record more, of so many bytes, by what it came to.
 abbrev pub next_of : Tally → Aim → ℕ → Tally

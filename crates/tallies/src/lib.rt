@@ -3,51 +3,23 @@
 
 ghost use Rattle.std.specs.Prelude.{◌≡◌, true, false, ◌+◌, ◌≤◌, ◌<◌, ◌^◌};
 ghost use Rattle.rules.specs.Runs.{nothing};
-ghost use Rattle.tallies.specs.Counted.{stops_run, is_stop, is_accepted, comes_to, next_of, keys_of};
+ghost use Rattle.tallies.specs.Counted.{is_stop, is_accepted, comes_to, next_of, keys_of};
 
 use aims::Aim;
 use rules::{Refusal, Tally, Verdict};
-
-fn refusal_stops(refusal: Refusal) -> bool
-    ensures { result ≡ stops_run refusal }
-{
-    match refusal {
-        Refusal::UnknownProfile => false,
-        Refusal::WrongLength => false,
-        Refusal::WrongCards => false,
-        Refusal::WrongOrder => false,
-        Refusal::CardInGap => false,
-        Refusal::TooManyKeys => false,
-        Refusal::WrongForecast => false,
-        Refusal::WrongTable => false,
-        Refusal::KeyZero => false,
-        Refusal::KeyPresent => false,
-        Refusal::KeyAbsent => false,
-        Refusal::Full => false,
-        Refusal::BadRecord => true,
-        Refusal::AllowancePassed => true,
-    }
-}
 
 // What stops a run: a bad record, or moves over the allowance.
 fn stops(verdict: Verdict) -> bool
     ensures { result ≡ is_stop verdict }
 {
-    if let Verdict::Refused(refusal) = verdict {
-        return refusal_stops(refusal);
-    }
-    false
+    matches!(verdict, Err(Refusal::BadRecord | Refusal::AllowancePassed))
 }
 
 // Whether a request stops the run where only so many moves are left.
 pub fn halts(aim: Aim, left: u64) -> bool
     ensures { result ≡ is_stop (comes_to left aim) }
 {
-    if left < aim.moves as u64 {
-        return true;
-    }
-    let verdict = aim.verdict;
-    stops(verdict)
+    stops(within(aim, left))
 }
 
 // What it comes to there: with more moves than are left it is refused for that.
@@ -55,7 +27,7 @@ pub fn within(aim: Aim, left: u64) -> Verdict
     ensures { result ≡ comes_to left aim }
 {
     if left < aim.moves as u64 {
-        return Verdict::Refused(Refusal::AllowancePassed);
+        return Err(Refusal::AllowancePassed);
     }
     aim.verdict
 }
@@ -63,10 +35,7 @@ pub fn within(aim: Aim, left: u64) -> Verdict
 pub fn is_accepted(verdict: Verdict) -> bool
     ensures { result ≡ is_accepted verdict }
 {
-    match verdict {
-        Verdict::Refused(_) => false,
-        Verdict::Accepted => true,
-    }
+    verdict.is_ok()
 }
 
 // Nothing counted yet.

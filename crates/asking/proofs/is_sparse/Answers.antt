@@ -8,8 +8,8 @@ use Rattle.asking.proofs.is_sparse.Goals as goal
 pub returns-then-grows : goal.returns-then-grows
 returns-then-grows c = record { is = λ h. rw c.if-grows.true refl; refused = λ a. refl }
 
-pub returns-in-Refused : goal.returns-in-Refused
-returns-in-Refused c = record { is = λ h. rw (c.if-grows.false, c.in-Refused.is) refl; refused = λ a. refl }
+pub returns-in-Err : goal.returns-in-Err
+returns-in-Err c = record { is = λ h. rw (c.if-grows.false, c.in-Err.is) refl; refused = λ a. refl }
 
 pub returns-then-height-eq0 : goal.returns-then-height-eq0
 returns-then-height-eq0 c = record { is = λ h. absurd (omega (arith, h, c.if-height-eq0.true, c.height_of-height.ensures.0)); refused = λ a. refl }

@@ -1,4 +1,5 @@
 -- `look_over_both` finds the number of the check of list, cards and forecast.
+use Rattle.std.proofs.Common.{Ok}
 use mathlib.Core.Path.{◌≡◌, sym, ap, ◌∙◌}
 use mathlib.Core.List.{List, []}
 use Prim.Native.Nat.{ℕ, ◌+◌, ◌≤◌}
@@ -11,7 +12,6 @@ use Rattle.rules.specs.Shares.{cells_of}
 use Rattle.rules.specs.Lent.{Lent, lend}
 use Rattle.rules.specs.Checks.{shares_of, check_cards, check_list}
 use Rattle.rules.specs.Refusals.{verdict_number}
-use Rattle.rules.specs.declared.Verdict.TheVariants.{Accepted}
 use Rattle.rules.specs.declared.Refusal.TheVariants.{WrongForecast}
 use Rattle.demands.proofs.Requests.Shown.{shows-passed, long-passed}
 use Rattle.demands.proofs.Requests.Checked.{forecast-stays, forecast-wrong, forecast-passes}
@@ -23,10 +23,10 @@ use Rattle.checks.proofs.look_over_both.Goals as goal
 use Rattle.checks.proofs.look_over_both.Goals.{After-fault_of-fault, After-shape-1}
 use Rattle.checks.proofs.look_over_both.Lts.View.{up-After-shape-1}
 
-pub returns-in-Refused : goal.returns-in-Refused
-returns-in-Refused c =
+pub returns-in-Err : goal.returns-in-Err
+returns-in-Err c =
     let look = c.look_over-listing.ensures in
-    let told = c.in-Refused.is in record {
+    let told = c.in-Err.is in record {
       looked = λ table. renumbered _ (sym (forecast-stays _ _ _ _ (λ e. refused-some _ _ told ((look.looked table).number ∙ e)))) (look.looked table);
       counts = look.counts;
     }
@@ -51,7 +51,7 @@ module _ (c : After-shape-1) where
   counting : Counting list listing c.look_over-listing.new.counts
   counting = c.look_over-listing.ensures.counts
 
-  accepted : listing.verdict ≡ Accepted
+  accepted : listing.verdict ≡ Ok tt
   accepted = c.in_default.is
 
   passes : (table : List ℕ) → check_cards profile (lent table) ≡ 0

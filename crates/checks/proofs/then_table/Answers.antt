@@ -6,9 +6,9 @@ use Rattle.checks.proofs.Numbers.{refused-some}
 use Rattle.checks.proofs.Tabling.{renumbered, table-asks, right-looked, wrong-looked}
 use Rattle.checks.proofs.then_table.Goals as goal
 
-pub returns-in-Refused : goal.returns-in-Refused
-returns-in-Refused c profile slots cards m look list e counting =
-    let some : m ≢ 0 = λ z. refused-some _ _ c.in-Refused.is (look.number ∙ z) in
+pub returns-in-Err : goal.returns-in-Err
+returns-in-Err c profile slots cards m look list e counting =
+    let some : m ≢ 0 = λ z. refused-some _ _ c.in-Err.is (look.number ∙ z) in
     renumbered _ (sym (number-stays m _ some)) look
 
 pub is_right-requires : goal.is_right-requires

@@ -4,12 +4,10 @@ use Prim.Native.Nat.{ℕ, ◌<◌}
 use native.Mathlib.Omega.{arith}
 use borrow.Author.Tests.{ne_eqb}
 use lib.Dec.{eqb}
-use Rattle.std.proofs.Common.{if◌then◌else◌}
+use Rattle.std.proofs.Common.{if◌then◌else◌, Ok, Err}
 use Rattle.rules.specs.declared.Refusal.{Refusal}
 use Rattle.rules.specs.declared.Refusal.TheVariants.{UnknownProfile, WrongLength, WrongCards, WrongOrder, CardInGap, TooManyKeys, WrongForecast, WrongTable, KeyZero, KeyPresent, KeyAbsent, Full, BadRecord, AllowancePassed}
-use Rattle.rules.specs.declared.Verdict.{Verdict}
-use Rattle.rules.specs.declared.Verdict.TheVariants.{Refused, Accepted}
-use Rattle.rules.specs.Refusals.{refusal_number, verdict_number}
+use Rattle.rules.specs.Refusals.{refusal_number, Verdict, verdict_number}
 
 -- THE REFUSAL OF A NUMBER
 abbrev named : ℕ → Refusal
@@ -54,11 +52,11 @@ refusal-told x y e = sym (back x).1 ∙ ap named e ∙ (back y).1
 
 -- THE VERDICT OF A NUMBER
 abbrev judged : ℕ → Verdict
-judged n = if eqb n 0 then Accepted else Refused (named n)
+judged n = if eqb n 0 then Ok tt else Err (named n)
 
 verdict-back : (v : Verdict) → judged (verdict_number v) ≡ v
-verdict-back (Refused x) = rw (ne_eqb (refusal_number x) 0 (omega (arith, (back x).0))) (ap Refused (back x).1)
-verdict-back Accepted = refl
+verdict-back (Err x) = rw (ne_eqb (refusal_number x) 0 (omega (arith, (back x).0))) (ap Err (back x).1)
+verdict-back (Ok x) = refl
 
 pub verdict-told : (v w : Verdict) → verdict_number v ≡ verdict_number w → v ≡ w
 verdict-told v w e = sym (verdict-back v) ∙ ap judged e ∙ verdict-back w

@@ -1,9 +1,9 @@
 -- `work_lent` checks once, makes ready, and works the records.
+use Rattle.std.proofs.Common.{Ok}
 use mathlib.Core.Path.{◌≡◌, refl, ◌∙◌}
 use Prim.Native.Nat.{ℕ}
 use lib.ListN.{get_or-replicate}
 use Rattle.forecast.specs.declared.Forecast.{Forecast}
-use Rattle.rules.specs.declared.Verdict.TheVariants.{Accepted}
 use Rattle.rules.specs.Lent.{Lent, lend}
 use Rattle.seats.specs.Bounds.{top}
 use Rattle.checks.specs.declared.Listing.{Listing}
@@ -15,10 +15,10 @@ use Rattle.opening.proofs.Ready.{ready-passes, ready-stands, ready-ends, ready-i
 use Rattle.opening.proofs.work_lent.Goals as goal
 use Rattle.opening.proofs.work_lent.Goals.{After-shape-1}
 
-pub returns-in-Refused : goal.returns-in-Refused
-returns-in-Refused c =
+pub returns-in-Err : goal.returns-in-Err
+returns-in-Err c =
     let look = c.look_lent-listing in
-    let some = refused-some look.result.verdict _ c.in-Refused.is in
+    let some = refused-some look.result.verdict _ c.in-Err.is in
     record {
       refused = λ n. record { tally = c.none.ensures; stop = look.ensures.number; last = look.ensures.number; forecast = refl; lent_left = refl };
       ended = λ e. absurd (some (look.ensures.number ∙ e));
@@ -41,7 +41,7 @@ module _ (c : After-shape-1) where
   looked : LentLooked number given told listing
   looked = c.look_lent-listing.ensures
 
-  accepted : listing.verdict ≡ Accepted
+  accepted : listing.verdict ≡ Ok tt
   accepted = c.in_default.is
 
   stands : Stands given.slots told listing.shape listing.keys

@@ -7,8 +7,8 @@ use Rattle.answers.proofs.Replies.{refused-admits}
 use Rattle.list.proofs.calls.scan.Goals as goal
 use Rattle.list.proofs.calls.scan.Goals.{In_default}
 
-pub returns-in-Refused : goal.returns-in-Refused
-returns-in-Refused c = refused-admits _ _ _ _ _ _ (sym c.look_read-verdict.ensures.number ∙ ap verdict_number c.in-Refused.is)
+pub returns-in-Err : goal.returns-in-Err
+returns-in-Err c = refused-admits _ _ _ _ _ _ (sym c.look_read-verdict.ensures.number ∙ ap verdict_number c.in-Err.is)
 
 -- where the check accepts, list, cards and table pass in their profile
 passes : (c : In_default) → let a = c.args in check_read a.profile (lend a.list.now a.cards.now a.table.now) ≡ 0

@@ -8,10 +8,10 @@ use Rattle.list.proofs.changing.insert.Goals.{Start}
 abbrev lent : Start → Lent
 lent s = lend s.args.list.now s.args.cards.now s.args.table.now
 
-pub returns-in-Refused : goal.returns-in-Refused
-returns-in-Refused c =
+pub returns-in-Err : goal.returns-in-Err
+returns-in-Err c =
     let ask = c.ask-reply in
-    record { answer = answer-refused _ _ _ (lent (goal.at.returns-in-Refused c).Start) _ ask.result ask.ensures.answer _ c.in-Refused.is; forecast = ask.ensures.forecast; lent_left = ask.ensures.lent_left }
+    record { answer = answer-refused _ _ _ (lent (goal.at.returns-in-Err c).Start) _ ask.result ask.ensures.answer _ c.in-Err.is; forecast = ask.ensures.forecast; lent_left = ask.ensures.lent_left }
 
 pub returns : goal.returns
 returns c =

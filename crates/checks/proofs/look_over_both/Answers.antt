@@ -72,12 +72,12 @@ module _ (c : After-fault_of-fault) where
       c.fault_of-fault.ensures (segments_of slots) (shows-passed (profile (up-After-shape-1 _ _ _ _ c.before.before)) slots (list-passes (up-After-shape-1 _ _ _ _ c.before.before))) long
       ∙ ap (λ (p : ℕ). fault_of p (segments_of slots) told) (((looked (up-After-shape-1 _ _ _ _ c.before.before) []).shape (accepted (up-After-shape-1 _ _ _ _ c.before.before))).cells ∙ ap (λ (h : ℕ). 6 + h) ((looked (up-After-shape-1 _ _ _ _ c.before.before) []).height (accepted (up-After-shape-1 _ _ _ _ c.before.before))))
 
-pub returns-in-Err : goal.returns-in-Err
-returns-in-Err c =
+pub returns-in-Err-fault : goal.returns-in-Err-fault
+returns-in-Err-fault c =
     record {
-      looked = λ table. looked-refused (profile (goal.at.returns-in-Err c).After-shape-1) (list (goal.at.returns-in-Err c).After-shape-1) WrongForecast _ c.refuse.ensures _
-          (forecast-wrong _ (profile (goal.at.returns-in-Err c).After-shape-1) (list (goal.at.returns-in-Err c).After-shape-1) (told (goal.at.returns-in-Err c).After-fault_of-fault) (passes (goal.at.returns-in-Err c).After-shape-1 table) (sym (ap is_sound (fault-is (goal.at.returns-in-Err c).After-fault_of-fault)) ∙ ap is_sound c.in-Err.is));
-      counts = counting-refused (profile (goal.at.returns-in-Err c).After-shape-1) (list (goal.at.returns-in-Err c).After-shape-1) WrongForecast _ c.refuse.ensures _ (counting (goal.at.returns-in-Err c).After-shape-1).long;
+      looked = λ table. looked-refused (profile (goal.at.returns-in-Err-fault c).After-shape-1) (list (goal.at.returns-in-Err-fault c).After-shape-1) WrongForecast _ c.refuse.ensures _
+          (forecast-wrong _ (profile (goal.at.returns-in-Err-fault c).After-shape-1) (list (goal.at.returns-in-Err-fault c).After-shape-1) (told (goal.at.returns-in-Err-fault c).After-fault_of-fault) (passes (goal.at.returns-in-Err-fault c).After-shape-1 table) (sym (ap is_sound (fault-is (goal.at.returns-in-Err-fault c).After-fault_of-fault)) ∙ ap is_sound c.in-Err-fault.is));
+      counts = counting-refused (profile (goal.at.returns-in-Err-fault c).After-shape-1) (list (goal.at.returns-in-Err-fault c).After-shape-1) WrongForecast _ c.refuse.ensures _ (counting (goal.at.returns-in-Err-fault c).After-shape-1).long;
     }
 
 pub returns : goal.returns

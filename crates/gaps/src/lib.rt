@@ -11,12 +11,8 @@ pub fn clear(part: &mut [u64], cards: &mut [u32], a: usize, e: usize)
     ensures slots { part.new ≡ cleared a e 0 part.old }
     ensures cards { cards.new ≡ cleared a e 0 cards.old }
 {
-    let mut i = a;
-    while i < e {
-        part[i] = 0;
-        cards[i] = 0;
-        i += 1;
-    }
+    part[a..e].fill(0);
+    cards[a..e].fill(0);
 }
 
 // In a part whose first `n` slots are keys: `v` put in front of key `at`, with its card.

@@ -35,12 +35,6 @@ module _ {A : Type 0} where
       ∙ ap (λ (t : List A). t ++ drop (to + e + k) l) (append_assoc (take to l) (take e d) (take k (drop e d)) ∙ ap (λ (t : List A). take to l ++ t) (sym (take-add e k d)))
       ∙ ap (λ (n : ℕ). take to l ++ take (e + k) d ++ drop n l) e₁
 
-  -- the same, of what was read and what it was laid over
-  pub laid_on : (l s read over new : List A) (a to e k i : ℕ) → to + (e + k) ≤ length l → a + (e + k) ≤ length s → e ≤ i → i ≤ e + k
-      → take k (drop (a + e) s) ≡ read → over ≡ paste l to (drop a s) i → new ≡ take (to + e) over ++ read ++ drop (to + e + k) over → new ≡ paste l to (drop a s) (e + k)
-  laid_on l s read over new a to e k i h q j m r o n =
-      n ∙ ap₂ {C = List A} (λ (p vs : List A). take (to + e) p ++ vs ++ drop (to + e + k) p) o (sym r) ∙ lay-on l s a to e k i h q j m
-
   -- TO THE LEFT: the same from the list itself, as the movement of i slots has left it
   left-on : (l : List A) (from to i k : ℕ) → to ≤ from → from + (i + k) ≤ length l → moved (from + i) (to + i) k (moved from to i l) ≡ moved from to (i + k) l
   left-on l from to i k h q =
@@ -52,6 +46,15 @@ module _ {A : Type 0} where
 
   pub left-turn : (l over new : List A) (from to i k : ℕ) → to ≤ from → from + (i + k) ≤ length l → over ≡ moved from to i l → new ≡ moved (from + i) (to + i) k over → new ≡ moved from to (i + k) l
   left-turn l over new from to i k h q o n = n ∙ ap (moved (from + i) (to + i) k) o ∙ left-on l from to i k h q
+
+  -- and the last k of c, read before and laid where i of them stand already
+  pub left-laid : (l read over new : List A) (from to c k i : ℕ) → to ≤ from → from + c ≤ length l → k ≤ c → c - k ≤ i → i ≤ c → take k (drop (from + (c - k)) l) ≡ read → over ≡ moved from to i l
+      → new ≡ take (to + (c - k)) over ++ read ++ drop (to + (c - k) + k) over → new ≡ moved from to c l
+  left-laid l read over new from to c k i h q j m n r o w =
+      let e : c - k + k ≡ c = omega arith in
+      w ∙ ap₂ {C = List A} (λ (p vs : List A). take (to + (c - k)) p ++ vs ++ drop (to + (c - k) + k) p) o (sym r)
+      ∙ lay-on l l from to (c - k) k i (omega arith) (omega arith) m (omega arith)
+      ∙ ap (λ (n : ℕ). moved from to n l) e
 
   -- TO THE RIGHT: the first i of c slots are left to copy, and then the k from j on are copied, read from the list as it was
   drop-right : (l : List A) (from to c i n : ℕ) → from ≤ to → to + c ≤ length l → i ≤ n → n ≤ c
@@ -95,10 +98,8 @@ module _ {A : Type 0} where
       ∙ right-lay l from to c 0 k i h q (omega arith) (omega arith) (omega arith)
       ∙ right-all l from to c
 
-  right-on : (l : List A) (from to c i k : ℕ) → from ≤ to → to + c ≤ length l → i ≤ c → k ≤ i
-      → moved (from + (i - k)) (to + (i - k)) k (Right l from to c i) ≡ Right l from to c (i - k)
-  right-on l from to c i k h q m n =
-      let j : ℕ = i - k in
+  right-on : (l : List A) (from to c i j k : ℕ) → from ≤ to → to + c ≤ length l → i ≤ c → j + k ≡ i → moved (from + j) (to + j) k (Right l from to c i) ≡ Right l from to c j
+  right-on l from to c i j k h q m n =
       let R : List A = Right l from to c i in
       let f : List A = take (to + i) l in
       let r : List A = take (c - i) (drop (from + i) l) ++ drop (to + c) l in
@@ -108,9 +109,9 @@ module _ {A : Type 0} where
       ∙ right-lay l from to c j k i h q (omega arith) (omega arith) (omega arith)
 
   -- the same, of what was moved, and of what was read and what it was laid over
-  pub right-turn : (l over new : List A) (from to c i k : ℕ) → from ≤ to → to + c ≤ length l → i ≤ c → k ≤ i → over ≡ Right l from to c i
-      → new ≡ moved (from + (i - k)) (to + (i - k)) k over → new ≡ Right l from to c (i - k)
-  right-turn l over new from to c i k h q m p o n = n ∙ ap (moved (from + (i - k)) (to + (i - k)) k) o ∙ right-on l from to c i k h q m p
+  pub right-turn : (l over new : List A) (from to c i j k : ℕ) → from ≤ to → to + c ≤ length l → i ≤ c → j + k ≡ i → over ≡ Right l from to c i
+      → new ≡ moved (from + j) (to + j) k over → new ≡ Right l from to c j
+  right-turn l over new from to c i j k h q m e o n = n ∙ ap (moved (from + j) (to + j) k) o ∙ right-on l from to c i j k h q m e
 
   pub right-laid : (l read over new : List A) (from to c k i : ℕ) → from ≤ to → to + c ≤ length l → i ≤ k → k ≤ c → take k (drop from l) ≡ read → over ≡ Right l from to c i
       → new ≡ take to over ++ read ++ drop (to + k) over → new ≡ moved from to c l

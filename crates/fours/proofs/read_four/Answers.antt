@@ -1,7 +1,0 @@
--- read_four meets its contract: four loads.
-use native.Mathlib.Omega.{arith}
-use Rattle.fours.proofs.AtOnce.{four-read}
-use Rattle.fours.proofs.read_four.Goals as goal
-
-pub returns : goal.returns
-returns c = let a = c.args in four-read a.part.now a.from 0 (omega arith)

@@ -2,7 +2,7 @@
 #![tactic(auto)]
 
 // A marker is a live key, or 0 for the front of the list.
-#[derive(Clone, Copy)]
+#[derive(Clone, Copy, PartialEq, Eq, Debug)]
 pub struct Cell {
     pub marker: u64,
     pub segment: usize,

@@ -1,21 +1,17 @@
 -- What a check of a cell comes to, case by case: of its marker by a search for it, and of the cells before it.
-use mathlib.Core.Path.{◌≡◌, ap, sym, ◌∙◌}
-use mathlib.Core.Bool.{Bool, true, false}
-use mathlib.Core.Logic.{inl, inr, ◌≢◌}
-use mathlib.Core.List.{List}
-use Prim.Native.Nat.{ℕ, ◌≤◌, ◌<◌}
-use native.Mathlib.Omega.{arith}
+use mathlib.Core.Path.{◌≡◌, refl, ap, sym, ◌∙◌}
+use mathlib.Core.Bool.{Bool, true, false, ◌&&◌, ◌||◌}
+use mathlib.Core.Logic.{◌≢◌}
+use mathlib.Core.List.{List, [], ◌∷◌, map}
+use Prim.Native.Nat.{ℕ}
 use borrow.Author.Tests.{eq-eqb, ne_eqb}
 use lib.Dec.{T, eqb}
-use lib.ListN.{length, take, length-map}
-use lib.Seq.{length-take-le}
+use lib.ListN.{take}
+use Rattle.std.specs.List.{list_any}
 use Rattle.std.specs.Prelude.{Ok, Err}
 use Rattle.lists.specs.Lists.{any_of}
-use Rattle.lists.specs.Search.{place_by}
-use Rattle.lists.proofs.Tests.{tested, is_true, is_false}
-use Rattle.lists.proofs.Members.{at_mem}
-use Rattle.lists.proofs.Filtered.{any_some, some-any}
-use Rattle.lists.proofs.Search.{place-passes, place-mem}
+use Rattle.lists.proofs.Maps.{map-take}
+use Rattle.lists.proofs.Tests.{is_true}
 use Rattle.slots.specs.Segments.{Segments, keys}
 use Rattle.slots.specs.Keys.{member, segment_of}
 use Rattle.slots.specs.Shown.{Shows, Located}
@@ -25,13 +21,13 @@ use Rattle.slots.proofs.Keys.{segment-front}
 use Rattle.slots.proofs.Seats.{seat-live}
 use Rattle.slots.proofs.Standing.{stands_live, stands-home}
 use Rattle.cells.specs.declared.Cell.{Cell}
-use Rattle.cells.specs.Cells.{zero_cell, marks}
-use Rattle.cells.proofs.Laws.{place-marker}
+use Rattle.cells.specs.Cells.{marks}
 use Rattle.forecast.specs.declared.Forecast.{Forecast}
 use Rattle.forecast.specs.declared.Fault.TheVariants.{NotLive, Misplaced}
 use Rattle.forecast.specs.Cells.{cells}
-use Rattle.forecast.specs.Tidy.{CellOf}
-use Rattle.forecast.specs.Faults.{marker_fault}
+use Rattle.forecast.specs.Tidy.{Roomy}
+use Rattle.forecast.specs.Faults.{is_zero, marker_fault}
+use Rattle.forecast.proofs.Stepping.{roomy-markers}
 
 -- A MARKER THAT IS THE FRONT is in segment 0
 front-is : (ss : Segments) (k : ℕ) → k ≡ 0 → segment_of ss k ≡ 0
@@ -70,26 +66,20 @@ module _ (ss : Segments) (c : Cell) (i : ℕ) (n : c.marker ≢ 0) (r : Place) (
   pub not_live : r.present ≡ false → marker_fault ss c i ≡ Err (NotLive i)
   not_live p = rw (ne_eqb c.marker 0 n, ← l.present, p)
 
--- WHETHER ONE PASSES, by the place of the first that does
-module _ {A : Type 0} (p : A → Bool) (xs : List A) where
-  -- it is a place of the list
-  any-placed : A → place_by p xs < length xs → any_of p xs ≡ true
-  any-placed d h = is_true (any_of p xs) (some-any p xs _ (at_mem xs (place_by p xs) d h) (place-passes p xs d h))
+-- AN UNUSED CELL: the test of its fields, one after the other
+pub zero-is : (c : Cell) → (eqb c.marker 0 && (eqb c.segment 0 && eqb c.count 0)) ≡ is_zero c
+zero-is c = grouped (eqb c.marker 0) (eqb c.segment 0) (eqb c.count 0)
+  where
+    grouped : (a b d : Bool) → (a && (b && d)) ≡ ((a && b) && d)
+    grouped true b d = refl
+    grouped false b d = refl
 
-  -- it is past the last
-  any-past : length xs ≤ place_by p xs → any_of p xs ≡ false
-  any-past h = is_false (any_of p xs) (elim (tested (any_of p xs)) [ inl t ↦ (let a = any_some p xs t in absurd (omega (arith, place-mem p xs a.0 a.1 a.2))) | inr t ↦ t ])
+-- A MARKER REPEATED among the cells before
+any-list : (p : ℕ → Bool) (f : Cell → ℕ) (cs : List Cell) → list_any p (map f cs) ≡ any_of (λ c. p (f c)) cs
+any-list p f [] = refl
+any-list p f (c ∷ cs) = ap (λ (b : Bool). p (f c) || b) (any-list p f cs)
 
--- A MARKER REPEATED, by its place among the markers of the cells before
-module _ (F : Forecast) (i n : ℕ) (c : Cell) (ms : List ℕ) (o : CellOf F i c n ms) (h : i < length ms) (r : ℕ) (e : r ≡ place_by (λ m. eqb m c.marker) (take i ms)) where
-  before-long : length (take i (cells F)) ≡ i
-  before-long = length-take-le i (cells F) (omega (arith, ap length o.markers, length-map (cells F) (λ d. d.marker)))
-
-  before-place : r ≡ place_by (marks c.marker) (take i (cells F))
-  before-place = e ∙ ap (λ (l : List ℕ). place_by (λ m. eqb m c.marker) (take i l)) o.markers ∙ place-marker c.marker i (cells F)
-
-  pub repeated : r < i → any_of (marks c.marker) (take i (cells F)) ≡ true
-  repeated l = any-placed (marks c.marker) (take i (cells F)) zero_cell (omega (arith, before-long, before-place))
-
-  pub not-repeated : i ≤ r → any_of (marks c.marker) (take i (cells F)) ≡ false
-  not-repeated l = any-past (marks c.marker) (take i (cells F)) (omega (arith, before-long, before-place))
+pub before-is : (F : Forecast) → Roomy F → (i x : ℕ) → list_any (λ y. eqb y x) (take i F.markers) ≡ any_of (marks x) (take i (cells F))
+before-is F r i x =
+    ap (list_any (λ y. eqb y x)) (ap (take i) (sym (roomy-markers F r)) ∙ sym (map-take (λ c. c.marker) i (cells F)))
+    ∙ any-list (λ y. eqb y x) (λ c. c.marker) (take i (cells F))

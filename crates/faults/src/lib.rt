@@ -4,50 +4,34 @@
 ghost use Rattle.std.specs.Prelude.{◌≡◌, ◌≤◌, ◌<◌, length};
 ghost use Rattle.slots.specs.Segments.{Segments};
 ghost use Rattle.slots.specs.Shown.{Shows};
-ghost use Rattle.forecast.specs.Faults.{is_zero, marker_fault, fault_at, fault_of};
-ghost use Rattle.forecast.specs.Tidy.{CellOf};
+ghost use Rattle.forecast.specs.Faults.{marker_fault, fault_at, fault_of};
 
 use cells::Cell;
 use forecast::{Fault, Forecast};
 
-// No marker, no segment and no count.
-fn is_zero(cell: Cell) -> bool
-    ensures { result ≡ is_zero cell }
-{
-    if cell.marker != 0 {
-        return false;
-    }
-    if cell.segment != 0 {
-        return false;
-    }
-    cell.count == 0
-}
+// No marker, no segment and no count: what an unused cell is.
+const ZERO_CELL: Cell = Cell {
+    marker: 0,
+    segment: 0,
+    count: 0,
+};
 
-// What is wrong with cell `i` of a forecast that uses `used` of its cells and has these markers, if anything.
-fn fault_at(
-    cell: Cell,
-    i: usize,
-    used: usize,
-    markers: &[u64; 12],
-    p: usize,
-    list: &[u64],
-) -> Result<(), Fault>
-    requires { (i < 12) × (length markers.now ≡ 12) × (64 ≤ length list.now) }
-    ensures { (F : Forecast) (ss : Segments) → CellOf F i cell used markers.now → Shows ss list.now → result ≡ fault_at p ss F i }
+// What is wrong with cell `i` of a forecast, if anything.
+fn fault_at(forecast: &Forecast, i: usize, p: usize, list: &[u64]) -> Result<(), Fault>
+    requires { (i < 12) × (64 ≤ length list.now) }
+    ensures { (ss : Segments) → Shows ss list.now → result ≡ fault_at p ss forecast.now i }
 {
-    if used <= i {
-        if is_zero(cell) {
+    let cell = forecast.cell(i);
+    if forecast.used <= i {
+        if cell == ZERO_CELL {
             return Ok(());
         }
         return Err(Fault::NotZero(i));
     }
-    if cell.count < 1 {
+    if cell.count < 1 || p < cell.count {
         return Err(Fault::Count(i));
     }
-    if p < cell.count {
-        return Err(Fault::Count(i));
-    }
-    if rows::first_of(markers, i, cell.marker) < i {
+    if forecast.markers[..i].contains(&cell.marker) {
         return Err(Fault::Repeated(i));
     }
     marker_fault(cell, i, list)
@@ -85,17 +69,11 @@ pub fn fault_of(forecast: Forecast, p: usize, list: &[u64]) -> Result<(), Fault>
     if list.len() < 64 {
         return Ok(());
     }
-    let used = forecast.used;
-    if p < used {
+    if p < forecast.used {
         return Err(Fault::TooMany);
     }
     for i in 0..12 {
-        let cell = Cell {
-            marker: forecast.markers[i],
-            segment: rows::wide(forecast.segments[i]),
-            count: rows::wide(forecast.counts[i]),
-        };
-        fault_at(cell, i, used, &forecast.markers, p, list)?;
+        fault_at(&forecast, i, p, list)?;
     }
     Ok(())
 }

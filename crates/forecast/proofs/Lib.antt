@@ -6,4 +6,5 @@ pub mod Cases
 pub mod FaultCases
 pub mod Became
 pub mod Stepping
+pub mod Placed
 pub mod Checked

@@ -1,15 +1,17 @@
 -- Rows of 12 under the steps: stored to, shifted, closed up.
 use Prim.Native.Nat.{ℕ, suc, ◌+◌, ◌-◌, ◌≤◌, ◌<◌}
-use mathlib.Core.Path.{◌≡◌, sym, ap, ◌∙◌}
-use mathlib.Core.List.{List, ◌∷◌, ◌++◌, map}
+use mathlib.Core.Path.{◌≡◌, refl, sym, ap, ap₂, ◌∙◌, subst}
+use mathlib.Core.List.{List, [], ◌∷◌, ◌++◌, map, map-append, append-nil}
+use Rattle.std.specs.List.{copy_within}
+use Rattle.std.proofs.lemmas.List.{drop-append-le}
 use native.Mathlib.Omega.{arith}
-use lib.ListN.{length, take, drop, get_or, set, replicate, length-map, length-set, length-replicate, replicate-append-replicate, drop_of_length-le, get_or-map, get_or-eq_default}
-use lib.Seq.{length-take-le, take_at, take-append-add, set-append_left, set_split, append_snoc, map-set_same}
+use native.Mathlib.Numerals.{add-one}
+use lib.ListN.{length, take, drop, get_or, set, replicate, length-map, length-set, length-append, length-take, length-drop, length-replicate, replicate-append-replicate, drop_of_length-le, get_or-map}
+use lib.Seq.{length-take-le, take_at, take-append-add, take-append-le, drop-cons, set_at, paste, set-append_left, set_split, append_snoc, map-set_same}
 use Rattle.lists.specs.Lists.{padded, without}
-use Rattle.lists.proofs.Maps.{map-take, map-set}
-use Rattle.lists.proofs.Fill.{length-padded, get_or-padded, set-padded, take-padded, drop-padded, length_without}
-use Rattle.lists.proofs.Overwritten.{written, written_from, written-more, written-ahead, written-done, take-without, get_or-without}
-use Rattle.rows.specs.Ahead.{ahead_row}
+use Rattle.lists.proofs.Maps.{map-take, map-drop, map-set}
+use Rattle.lists.proofs.Fill.{length-padded, get_or-padded, set-padded, drop-padded}
+use Rattle.forecast.specs.Ahead.{ahead_row}
 use Rattle.cells.specs.declared.Cell.{Cell}
 use Rattle.cells.specs.Cells.{zero_cell, row}
 
@@ -37,10 +39,44 @@ padded-more n v xs h =
     take_rep : (k : ℕ) → ◌≡◌ {A = List ℕ} (take k (replicate (k + 1) 0)) (replicate k 0)
     take_rep k = rw (← replicate-append-replicate {A = ℕ} k 1 0) (take_at (replicate k 0) _ k (length-replicate k 0))
 
+-- moved back by one place, the last out, and one stored in front
+pub pushed-row : (n : ℕ) (xs : List ℕ) (v : ℕ) → length xs ≡ suc n → set (paste xs 1 xs n) 0 v ≡ v ∷ take n xs
+pushed-row n [] v h = absurd (omega arith)
+pushed-row n (x ∷ xs) v h =
+    let k : length (x ∷ xs) ≤ 1 + n = omega arith in
+    ap {B = List ℕ} (λ l. v ∷ (take n (x ∷ xs) ++ l)) (drop_of_length-le (x ∷ xs) k) ∙ ap {B = List ℕ} (λ l. v ∷ l) (append-nil (take n (x ∷ xs)))
+
+-- one of them lost: those after it come forward, and the last place is made zero
+pub padded-closed : (n at : ℕ) (xs : List ℕ) → at < length xs → length xs ≤ n → set (copy_within (padded n 0 xs) (at + 1) (length xs) at) (length xs - 1) 0 ≡ padded n 0 (without at xs)
+unfolding padded without
+padded-closed n at xs h l =
+    let k : at ≤ length xs = omega arith in
+    let k' : at + 1 ≤ length xs = omega arith in
+    let t : length xs - 1 ≤ length xs = omega arith in
+    let full : length xs ≤ suc (length xs - 1) = omega arith in
+    let e : at + (length xs - (at + 1)) ≡ length xs - 1 = omega arith in
+    let m : length (drop (at + 1) xs) ≡ length xs - (at + 1) = length-drop (at + 1) xs in
+    let w : length (take at xs ++ drop (at + 1) xs) ≡ length xs - 1 = simp (length-append, length-take, length-drop) (omega arith) in
+    let w' : length (take at xs ++ drop (suc at) xs) ≡ length xs - 1 = simp (length-append, length-take, length-drop) (omega arith) in
+    let z : n - (length xs - 1) ≡ suc (n - length xs) = omega arith in
+    rw (
+      e,
+      take-append-le at xs _ k,
+      drop-append-le (at + 1) xs _ k',
+      take_at (drop (at + 1) xs) _ _ m,
+      drop-append-le (length xs - 1) xs _ t,
+      drop-cons xs (length xs - 1) 0 (omega arith),
+      drop_of_length-le xs full,
+      set_at (take at xs ++ drop (at + 1) xs) (get_or xs (length xs - 1) 0) (replicate (n - length xs) 0) 0 (length xs - 1) w,
+      add-one,
+      w',
+      z,
+    ) refl
+
 -- ONE FIELD OF CELLS, IN A ROW OF 12
--- the row overwritten by what is left without the cell at `at`, as far as i
-abbrev pub closing : (Cell → ℕ) → List Cell → ℕ → ℕ → List ℕ
-closing f cs at i = written (row f (without at cs)) (row f cs) i
+map-without : {A B : Type 0} (f : A → B) (at : ℕ) (xs : List A) → map f (without at xs) ≡ without at (map f xs)
+unfolding without
+map-without {B} f at xs = map-append f (take at xs) (drop (suc at) xs) ∙ ap₂ {C = List B} ◌++◌ (map-take f at xs) (map-drop f (suc at) xs)
 
 module _ (f : Cell → ℕ) (cs : List Cell) where
   pub row-long : length cs ≤ 12 → length (row f cs) ≡ 12
@@ -78,35 +114,9 @@ module _ (f : Cell → ℕ) (z : f zero_cell ≡ 0) (cs : List Cell) where
       ahead2 : (ds : List Cell) → length ds ≡ length cs → set (row f ds) (i - 1) (f (get_or cs i zero_cell)) ≡ row f (set ds (i - 1) (get_or cs i zero_cell))
       ahead2 ds e = set-padded 12 0 (map f ds) (i - 1) (f (get_or cs i zero_cell)) (rw (length-map ds f) (omega arith)) ∙ ap (padded 12 0) (sym (map-set f ds (i - 1) (get_or cs i zero_cell)))
 
-  -- THE CELL AT `at` LOST: the row overwritten from there on
-  module _ (at : ℕ) (h : at < length cs) (l : length cs ≤ 12) where
-    long : length (without at cs) + 1 ≡ length cs
-    long = length_without at cs h
-
-    take_row : (ds : List Cell) → at ≤ length ds → take at (row f ds) ≡ map f (take at ds)
-    take_row ds k = take-padded 12 0 (map f ds) at (rw (length-map ds f) k) ∙ sym (map-take f at ds)
-
-    -- nothing to do before it
-    pub closing-from : row f cs ≡ closing f cs at at
-    closing-from =
-        written_from (row f (without at cs)) (row f cs) at
-        (take_row (without at cs) (omega (arith, long)) ∙ ap (map f) (take-without at cs (omega arith)) ∙ sym (take_row cs (omega arith)))
-
-    -- one place further
-    closed : (i : ℕ) → i < 12 → set (closing f cs at i) i (get_or (row f (without at cs)) i 0) ≡ closing f cs at (i + 1)
-    closed i k = written-more (row f (without at cs)) (row f cs) i 0 (rw (row-long f (without at cs) (omega (arith, long))) k) (rw (row-long f cs l) k)
-
-    pub closing-more : (i : ℕ) → at ≤ i → i + 1 < length cs → set (closing f cs at i) i (get_or (closing f cs at i) (i + 1) 0) ≡ closing f cs at (i + 1)
-    closing-more i a k =
-        let e : get_or (closing f cs at i) (i + 1) 0 ≡ get_or (row f (without at cs)) i 0 =
-        written-ahead (row f (without at cs)) (row f cs) i (i + 1) 0 (omega arith) (rw (row-long f (without at cs) (omega (arith, long))) (omega arith))
-        ∙ row_at f cs z (i + 1) ∙ ap f (sym (get_or-without at cs i zero_cell a (omega arith))) ∙ sym (row_at f (without at cs) z i) in
-        rw e (closed i (omega arith))
-
-    -- a zero in the last place
-    pub closing-last : (i : ℕ) → i + 1 ≡ length cs → set (closing f cs at i) i 0 ≡ row f (without at cs)
-    closing-last i k =
-        let e : get_or (row f (without at cs)) i 0 ≡ 0 =
-        get_or-padded 12 0 (map f (without at cs)) i ∙ get_or-eq_default (map f (without at cs)) 0 (rw (length-map (without at cs) f) (omega (arith, long))) in
-        ap (set (closing f cs at i) i) (sym e) ∙ closed i (omega arith)
-        ∙ written-done (row f (without at cs)) (row f cs) (i + 1) (row_drop f (without at cs) (i + 1) (omega (arith, long)) ∙ sym (row_drop f cs (i + 1) (omega arith)))
+-- a cell lost
+pub row-closed : (f : Cell → ℕ) (cs : List Cell) (at : ℕ) → at < length cs → length cs ≤ 12 → set (copy_within (row f cs) (at + 1) (length cs) at) (length cs - 1) 0 ≡ row f (without at cs)
+row-closed f cs at h l =
+    let n : length (map f cs) ≡ length cs = length-map cs f in
+    subst (λ (k : ℕ). set (copy_within (row f cs) (at + 1) k at) (k - 1) 0 ≡ padded 12 0 (without at (map f cs))) n (padded-closed 12 at (map f cs) (omega arith) (omega arith))
+    ∙ ap (padded 12 0) (sym (map-without f at cs))

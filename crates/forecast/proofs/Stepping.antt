@@ -130,8 +130,12 @@ module _ (F : Forecast) (t : Tidy F) where
   pub count-is : (i : ℕ) → get_or F.counts i 0 ≡ (get_or us i zero_cell).count
   count-is i = ap (λ (l : List ℕ). get_or l i 0) counts-row ∙ (row_at (λ c. c.count) us refl i)
 
+  -- the used markers are the used cells'
+  pub markers-used : take F.used F.markers ≡ map (λ c. c.marker) us
+  markers-used =
+      let n : F.used ≡ length (map (λ c. c.marker) us) = sym (length-map us (λ c. c.marker) ∙ cells-used) in
+      ap₂ {C = List ℕ} take n markers-row ∙ take-padded-all 12 0 (map (λ c. c.marker) us)
+
   -- a search of the markers is one of the cells
   pub place_is : (x : ℕ) → place_by (λ m. eqb m x) (take F.used F.markers) ≡ cell_at x us
-  place_is x =
-      let n : F.used ≡ length (map (λ c. c.marker) us) = sym (length-map us (λ c. c.marker) ∙ cells-used) in
-      ap (place_by (λ m. eqb m x)) (ap₂ {C = List ℕ} take n markers-row ∙ take-padded-all 12 0 (map (λ c. c.marker) us)) ∙ place_map (λ m. eqb m x) (λ c. c.marker) us
+  place_is x = ap (place_by (λ m. eqb m x)) markers-used ∙ place_map (λ m. eqb m x) (λ c. c.marker) us

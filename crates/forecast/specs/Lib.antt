@@ -1,3 +1,4 @@
+pub mod Ahead
 pub mod Cells
 pub mod Faults
 pub mod Tidy

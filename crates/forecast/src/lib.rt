@@ -1,16 +1,18 @@
 // The forecast: what the latest inserts noted, newest first.
 #![tactic(auto)]
 
-ghost use Rattle.std.specs.Prelude.{◌≡◌, [], ◌+◌, ◌≤◌, ◌<◌, length};
+ghost use Rattle.std.specs.Prelude.{◌≡◌, [], ◌+◌, ◌≤◌, ◌<◌, ◌==◌, length, take, get_or, position};
 ghost use Rattle.slots.specs.Segments.{Segments};
 ghost use Rattle.slots.specs.Keys.{Listed, segment_of};
-ghost use Rattle.cells.specs.Cells.{weight};
+ghost use Rattle.cells.specs.Cells.{zero_cell, weight};
 ghost use Rattle.cells.specs.Steps.{noted, dropped, retargeted};
 ghost use Rattle.seats.specs.Bounds.{Bounded};
-ghost use Rattle.forecast.specs.Cells.{used_cells};
+ghost use Rattle.forecast.specs.Cells.{cells, used_cells};
 ghost use Rattle.forecast.specs.Tidy.{Tidy, Became, Marker, Live, Outside, Elsewhere};
 
-// Room for 12 cells, with the number used: a row of markers, one of segments and one of counts.
+use cells::Cell;
+
+// Room for 12 cells, with the number used: a row of markers, one of segments and one of counts. Three rows, and no array of cells: C sees them so.
 #[repr(C)]
 #[derive(Clone, Copy)]
 pub struct Forecast {
@@ -43,6 +45,26 @@ impl Forecast {
         }
     }
 
+    // Cell `i`, used or not.
+    pub fn cell(&self, i: usize) -> Cell
+        requires { i < 12 }
+        ensures { result ≡ get_or (cells self.now) i zero_cell }
+    {
+        Cell {
+            marker: self.markers[i],
+            segment: usize::from(self.segments[i]),
+            count: usize::from(self.counts[i]),
+        }
+    }
+
+    // The place of the used cell with this marker, if there is one.
+    fn place_of(&self, marker: u64) -> Option<usize>
+        requires { self.now.used ≤ length self.now.markers }
+        ensures { result ≡ position (λ m. m == marker) (take self.now.used self.now.markers) }
+    {
+        self.markers[..self.used].iter().position(|m| *m == marker)
+    }
+
     // An insert notes its predecessor: a live key, or 0 for the front.
     pub fn note_insert(mut self, p: usize, marker: u64, segment: usize) -> Forecast
         requires tidy { Tidy self }
@@ -52,28 +74,33 @@ impl Forecast {
         ensures { Became (noted p marker segment (used_cells self)) result }
     {
         let used = self.used;
-        let at = rows::first_of(&self.markers, used, marker);
-        if at < used {
-            let count = self.counts[at];
-            if rows::wide(count) < p {
-                // One more, and it changes places with its neighbour toward the head.
-                self.counts[at] = count + 1;
-                if at == 0 {
+        match self.place_of(marker) {
+            Some(at) => {
+                let count = self.counts[at];
+                if usize::from(count) < p {
+                    // One more, and it changes places with its neighbour toward the head.
+                    self.counts[at] = count + 1;
+                    if at == 0 {
+                        return self;
+                    }
+                    self.segments.swap(at, at - 1);
+                    self.counts.swap(at, at - 1);
+                    self.markers.swap(at, at - 1);
                     return self;
                 }
-                rows::ahead8(&mut self.segments, at);
-                rows::ahead8(&mut self.counts, at);
-                rows::ahead(&mut self.markers, at);
-                return self;
             }
-        } else {
-            if used < p {
-                // A new cell at the head.
-                rows::put_first8(&mut self.segments, segment as u8);
-                rows::put_first8(&mut self.counts, 1);
-                self.used = used + 1;
-                rows::put_first(&mut self.markers, marker);
-                return self;
+            None => {
+                if used < p {
+                    // A new cell at the head, and the last place out.
+                    self.segments.copy_within(..11, 1);
+                    self.segments[0] = segment as u8;
+                    self.counts.copy_within(..11, 1);
+                    self.counts[0] = 1;
+                    self.markers.copy_within(..11, 1);
+                    self.markers[0] = marker;
+                    self.used = used + 1;
+                    return self;
+                }
             }
         }
         // One less for the tail, which goes when its count is spent.
@@ -95,24 +122,18 @@ impl Forecast {
         requires { Tidy self }
         ensures { Became (dropped marker (used_cells self)) result }
     {
-        let used = self.used;
-        let at = rows::first_of(&self.markers, used, marker);
-        if at < used {
-            let tail = used - 1;
-            let mut i = at;
-            while i < tail {
-                let next = i + 1;
-                self.segments[i] = self.segments[next];
-                self.counts[i] = self.counts[next];
-                self.markers[i] = self.markers[next];
-                i = next;
-            }
-            self.segments[tail] = 0;
-            self.counts[tail] = 0;
-            self.used = tail;
-            self.markers[tail] = 0;
+        let Some(at) = self.place_of(marker) else {
             return self;
-        }
+        };
+        let used = self.used;
+        let tail = used - 1;
+        self.segments.copy_within(at + 1..used, at);
+        self.segments[tail] = 0;
+        self.counts.copy_within(at + 1..used, at);
+        self.counts[tail] = 0;
+        self.markers.copy_within(at + 1..used, at);
+        self.markers[tail] = 0;
+        self.used = tail;
         self
     }
 
@@ -121,12 +142,10 @@ impl Forecast {
         requires { Tidy self }
         ensures { result ≡ weight (used_cells self) marker }
     {
-        let used = self.used;
-        let at = rows::first_of(&self.markers, used, marker);
-        if at < used {
-            return rows::wide(self.counts[at]);
+        match self.place_of(marker) {
+            Some(at) => usize::from(self.counts[at]),
+            None => 0,
         }
-        0
     }
 
     // Every cell of the `n` segments from `first` on names its marker's actual segment, by the bounds of segments; the others do as they are.
@@ -135,11 +154,8 @@ impl Forecast {
         requires bounds_len { (length bounds.now ≡ 64) × (first + n ≤ 64) }
         ensures { (Tidy result) × ((ss : Segments) → Listed ss → 0 < length ss → length ss ≤ 64 → Bounded 1 ss bounds.now → Live ss self → Elsewhere ss first n self → Became (retargeted (segment_of ss) (used_cells self)) result) }
     {
-        let used = self.used;
-        let mut i: usize = 0;
-        while i < used {
+        for i in 0..self.used {
             self.segments[i] = aim(self.segments[i], self.markers[i], bounds, first, n);
-            i += 1;
         }
         self
     }
@@ -150,12 +166,8 @@ fn aim(segment: u8, marker: u64, bounds: &[u64], first: usize, n: usize) -> u8
     requires { (length bounds.now ≡ 64) × (first + n ≤ 64) }
     ensures { (ss : Segments) → Listed ss → length ss ≤ 64 → Bounded 1 ss bounds.now → Marker ss marker → (Outside first n segment → segment ≡ segment_of ss marker) → result ≡ segment_of ss marker }
 {
-    let s = rows::wide(segment);
-    if s < first {
-        return segment;
+    if (first..first + n).contains(&usize::from(segment)) {
+        return seats::seat_of(bounds, marker) as u8;
     }
-    if first + n <= s {
-        return segment;
-    }
-    seats::seat_of(bounds, marker) as u8
+    segment
 }

@@ -20,11 +20,5 @@ seat-marker ss k (inl e) =
     ]
 seat-marker ss k (inr m) = seat-live k ss (mem→member k (keys ss) m)
 
-pub returns-then-s-first : goal.returns-then-s-first
-returns-then-s-first c ss ls few bs mk out = out (inl (omega arith))
-
-pub returns-then-first-n : goal.returns-then-first-n
-returns-then-first-n c ss ls few bs mk out = out (inr (omega arith))
-
-pub returns : goal.returns
-returns c ss ls few bs mk out = c.seat_of.ensures.place ss ls few bs ∙ seat-marker ss _ mk
+pub returns-then-contains : goal.returns-then-contains
+returns-then-contains c ss ls few bs mk out = c.seat_of.ensures.place ss ls few bs ∙ seat-marker ss _ mk

@@ -1,5 +1,4 @@
 -- `forecast::Forecast::retarget` meets its contract: the cells below i name their markers' segments already.
-use Prim.Native.Nat.{◌-◌}
 use mathlib.Core.Path.{refl}
 use native.Mathlib.Omega.{arith}
 use Rattle.slots.specs.Keys.{segment_of}
@@ -9,7 +8,7 @@ use Rattle.forecast.proofs.Forecast.retarget.Goals as goal
 pub mod Lemmas
 
 pub loop-i-init : goal.loop-i-init
-loop-i-init c = (omega arith, refl, c.requires.tidy, refl, refl, λ ss ls some few bs lv el. segments-row c.args.self c.requires.tidy)
+loop-i-init c = (refl, c.requires.tidy, refl, refl, λ ss ls some few bs lv el. segments-row c.args.self c.requires.tidy)
 
 pub loop-i-preserved : goal.loop-i-preserved
 loop-i-preserved c =
@@ -18,18 +17,17 @@ loop-i-preserved c =
     let i = c.loop-i.i in
     let g = c.loop-i.self in
     let inv = c.loop-i.invariant in (
-      omega arith,
-      inv.1,
-      tidy-aimed g inv.2 i _ (omega arith),
+      inv.0,
+      tidy-aimed g inv.1 i _ (omega arith),
+      inv.2,
       inv.3,
-      inv.4,
       λ ss ls some few bs lv el.
-          let e = inv.5 ss ls some few bs lv el in
-          aim-more f t (segment_of ss) i (omega arith) g inv.3 e _
-          (c.aim.ensures ss ls few bs (marked f t ss lv i (omega arith) g inv.3) (unaimed f t ss _ _ el i (omega arith) g inv.3 e)),
+          let e = inv.4 ss ls some few bs lv el in
+          aim-more f t (segment_of ss) i (omega arith) g inv.2 e _
+          (c.aim.ensures ss ls few bs (marked f t ss lv i (omega arith) g inv.2) (unaimed f t ss _ _ el i (omega arith) g inv.2 e)),
     )
 
 pub returns : goal.returns
 returns c =
     let inv = c.loop-i.invariant in
-    (inv.2, λ ss ls some few bs lv el. aimed-all c.args.self c.requires.tidy (segment_of ss) c.loop-i.i (omega arith) c.loop-i.self inv.1 inv.3 inv.4 (inv.5 ss ls some few bs lv el))
+    (inv.1, λ ss ls some few bs lv el. aimed-all c.args.self c.requires.tidy (segment_of ss) c.loop-i.i (omega arith) c.loop-i.self inv.0 inv.2 inv.3 (inv.4 ss ls some few bs lv el))

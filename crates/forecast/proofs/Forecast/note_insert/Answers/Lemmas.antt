@@ -5,11 +5,9 @@ use mathlib.Core.Logic.{◌≢◌}
 use mathlib.Core.List.{List, ◌∷◌}
 use native.Mathlib.Omega.{arith}
 use borrow.Author.Tests.{lt-ltb, le-ltb}
-use lib.Dec.{eqb}
 use lib.ListN.{length, take, get_or, set, length-set}
 use lib.Seq.{get_or-set_same, get_or-set_other, set-set}
-use Rattle.lists.specs.Search.{place_by}
-use Rattle.rows.specs.Ahead.{ahead_row}
+use Rattle.forecast.specs.Ahead.{ahead_row}
 use Rattle.cells.specs.declared.Cell.{Cell}
 use Rattle.cells.specs.Cells.{cell, zero_cell, with_count, row, cell_at}
 use Rattle.cells.specs.Steps.{raised, tailed, noted}
@@ -18,7 +16,7 @@ use Rattle.forecast.specs.declared.Forecast.{Forecast}
 use Rattle.forecast.specs.Cells.{used_cells}
 use Rattle.forecast.specs.Tidy.{Tidy, Became}
 use Rattle.forecast.proofs.Rows.{row-set, row_kept, row_more, row-ahead}
-use Rattle.forecast.proofs.Stepping.{made, became, cells-used, markers-row, segments-row, counts-row, count-is, place_is}
+use Rattle.forecast.proofs.Stepping.{made, became, cells-used, markers-row, segments-row, counts-row, count-is}
 
 module _ (F : Forecast) (t : Tidy F) where
   abbrev us : List Cell
@@ -86,11 +84,8 @@ module _ (F : Forecast) (t : Tidy F) where
       (b ∙ ap (λ (l : List ℕ). s ∷ take 11 l) (segments-row F t) ∙ row_more (λ c. c.segment) us (cell x s 1) l)
       (c ∙ ap (λ (l : List ℕ). 1 ∷ take 11 l) (counts-row F t) ∙ row_more (λ c. c.count) us (cell x s 1) l)
 
-  -- THE CASES of noting x
-  module _ (P x s at : ℕ) (e : at ≡ place_by (λ m. eqb m x) (take F.used F.markers)) where
-    found : at ≡ cell_at x us
-    found = e ∙ place_is F t x
-
+  -- THE CASES of noting x, whose cell is at `at`
+  module _ (P x s at : ℕ) (found : at ≡ cell_at x us) where
     -- x has a cell with count below P
     pub is-raised : at < F.used → get_or F.counts at 0 < P → noted P x s us ≡ raised at us
     unfolding noted
@@ -101,12 +96,14 @@ module _ (F : Forecast) (t : Tidy F) where
     unfolding noted
     is-spent h k = rw (← found, cells-used F t, lt-ltb _ _ h, ← count-is F t at, le-ltb _ _ k)
 
-    -- x has no cell and fewer than P are used
-    pub is-new : F.used ≤ at → F.used < P → noted P x s us ≡ cell x s 1 ∷ us
+  -- or that has none
+  module _ (P x s : ℕ) (missing : F.used ≤ cell_at x us) where
+    -- fewer than P are used
+    pub is-new : F.used < P → noted P x s us ≡ cell x s 1 ∷ us
     unfolding noted
-    is-new h k = rw (← found, cells-used F t, le-ltb _ _ h, lt-ltb _ _ k)
+    is-new k = rw (cells-used F t, le-ltb _ _ missing, lt-ltb _ _ k)
 
-    -- x has no cell and P are used
-    pub is-full : F.used ≤ at → P ≤ F.used → noted P x s us ≡ tailed us
+    -- P are used
+    pub is-full : P ≤ F.used → noted P x s us ≡ tailed us
     unfolding noted
-    is-full h k = rw (← found, cells-used F t, le-ltb _ _ h, le-ltb _ _ k)
+    is-full k = rw (cells-used F t, le-ltb _ _ missing, le-ltb _ _ k)

@@ -18,15 +18,12 @@ pub fn read_full<R: Read>(from: &mut R, buf: &mut [u8]) -> usize
     ensures within { result ≤ length buf.new }
     ensures bytes { Consumes (R.remaining from.old) (R.remaining from.new) (take result buf.new) }
 {
+    // A loop over `read`: std's own loops don't say what they read before a failure.
     let mut done = 0;
     while done < buf.len() {
         match from.read(&mut buf[done..]) {
-            Ok(n) => {
-                if n == 0 {
-                    break;
-                }
-                done += n;
-            }
+            Ok(0) => break,
+            Ok(n) => done += n,
             Err(_) => break,
         }
     }

@@ -39,9 +39,9 @@ loop-done-preserved g c = record {
   bytes = read_more _ _ _ _ _ _ _ c.loop-done.invariant.within c.in-Ok.ensures.bound.0 c.loop-done.invariant.bytes c.in-Ok.ensures.bytes.0;
 }
 
-pub returns-then-n-eq0-clause-bytes : goal.returns-then-n-eq0-clause-bytes
-returns-then-n-eq0-clause-bytes g c =
-    read_none _ _ _ _ _ _ _ c.if-n-eq0.true c.loop-done.invariant.within c.in-Ok.ensures.bound.0 c.loop-done.invariant.bytes c.in-Ok.ensures.bytes.0
+pub returns-in-Ok-eq0-clause-bytes : goal.returns-in-Ok-eq0-clause-bytes
+returns-in-Ok-eq0-clause-bytes g c =
+    read_none _ _ _ _ _ _ _ c.in-Ok-eq0.field-0-test c.loop-done.invariant.within c.in-Ok-eq0.ensures.bound.0 c.loop-done.invariant.bytes c.in-Ok-eq0.ensures.bytes.0
 
 pub returns-in-Err-clause-bytes : goal.returns-in-Err-clause-bytes
 returns-in-Err-clause-bytes g c =

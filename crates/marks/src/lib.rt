@@ -1,7 +1,7 @@
 // The marks of a window, found in the list as it stands before a request: the places that the keys that weigh will have, and their weights.
 #![tactic(auto)]
 
-ghost use Rattle.std.specs.Prelude.{◌≡◌, ℕ, ◌+◌, ◌*◌, ◌<◌, ◌≤◌, [], map, length, take, get_or};
+ghost use Rattle.std.specs.Prelude.{◌≡◌, ℕ, ◌+◌, ◌-◌, ◌*◌, ◌<◌, ◌≤◌, [], map, length, take, get_or};
 ghost use mathlib.Core.List.{Memᴰ as Mem};
 ghost use Rattle.lists.specs.Lists.{insert_at};
 ghost use Rattle.slots.specs.Segments.{Segments};
@@ -27,19 +27,14 @@ pub struct Window {
     pub grows: bool,
 }
 
-// `v` put in front of the number at `k`, of the first `n`.
-pub fn put_in(xs: &mut [usize], n: usize, k: usize, v: usize)
-    requires { (k ≤ n) × (n < length xs.old) }
-    ensures { take (n + 1) xs.new ≡ insert_at k v (take n xs.old) }
+// `v` put in front of the number at `k`; the last one goes.
+pub fn put_in(xs: &mut [usize], k: usize, v: usize)
+    requires { k < length xs.old }
+    ensures { xs.new ≡ insert_at k v (take (length xs.old - 1) xs.old) }
 {
-    let mut carry = v;
-    let mut i = k;
-    while i <= n {
-        let here = xs[i];
-        xs[i] = carry;
-        carry = here;
-        i += 1;
-    }
+    let last = xs.len() - 1;
+    xs.copy_within(k..last, k + 1);
+    xs[k] = v;
 }
 
 // Where `marker`, a key of segment `s` of the window, stands among the window's keys once the request is done.
@@ -60,7 +55,7 @@ fn place_of(list: &[u64], counts: &[usize], w: Window, s: usize, marker: u64) ->
         return p + 1;
     }
     // The key that is taken out is one of those below: there is one to take off.
-    std::num::wrapping_sub_usize(p, 1)
+    p.wrapping_sub(1)
 }
 
 // One cell's mark, if its marker is a key of the window; the answer is how many marks there are then.
@@ -80,19 +75,13 @@ fn mark_cell(
 {
     let marker = cell.marker;
     let s = cell.segment;
-    if marker == 0 {
-        return n;
-    }
-    if s < w.first {
-        return n;
-    }
-    if w.first + w.n <= s {
+    if marker == 0 || !(w.first..w.first + w.n).contains(&s) {
         return n;
     }
     let p = place_of(list, counts, w, s, marker);
     let k = mark_from(at, n, p);
-    put_in(at, n, k, p);
-    put_in(weights, n, k, cell.count);
+    put_in(&mut at[..n + 1], k, p);
+    put_in(&mut weights[..n + 1], k, cell.count);
     n + 1
 }
 
@@ -111,17 +100,9 @@ pub fn mark(
     ensures range { result ≤ 12 }
     ensures marks { (ss : Segments) → Marking list.now counts.now f w ss → Marked (map (weight (used_cells f)) (after w ss)) (take result at.new) (take result weights.new) }
 {
-    let used = f.used;
     let mut n = 0;
-    let mut i = 0;
-    while i < used {
-        let cell = Cell {
-            marker: f.markers[i],
-            segment: rows::wide(f.segments[i]),
-            count: rows::wide(f.counts[i]),
-        };
-        n = mark_cell(list, counts, w, cell, n, at, weights);
-        i += 1;
+    for i in 0..f.used {
+        n = mark_cell(list, counts, w, f.cell(i), n, at, weights);
     }
     n
 }

@@ -3,14 +3,14 @@ use Rattle.std.proofs.Common.{◌<◌, ◌≤◌, length, get_or, take, sym, ◌
 use Rattle.lists.proofs.Members.{at_mem}
 use Rattle.cells.specs.Cells.{zero_cell}
 use Rattle.forecast.specs.Cells.{used_cells}
-use Rattle.forecast.proofs.Stepping.{cells-used, cell-is, tidy-roomy, roomy-cell}
+use Rattle.forecast.proofs.Stepping.{cells-used, cell-is}
 use Rattle.marks.specs.Marking.{after, Aims}
 use Rattle.marks.proofs.CellMarks.{marking-none, marking-next}
 use Rattle.marks.proofs.Standing.{rises-after}
 use Rattle.marks.proofs.mark.Goals as goal
 
 pub loop-i-init : goal.loop-i-init
-loop-i-init c = (omega arith, omega arith, (omega arith, omega arith), λ ss q. marking-none _)
+loop-i-init c = (omega arith, (omega arith, omega arith), λ ss q. marking-none _)
 
 pub mark_cell-n-requires : goal.mark_cell-n-requires
 mark_cell-n-requires c =
@@ -24,13 +24,12 @@ loop-i-preserved c =
     let L = c.loop-i in
     let a = c.args in
     let t = c.requires.tidy in
-    let h : L.i < a.f.used = c.loop-i-test.true in
-    let is = (roomy-cell a.f (tidy-roomy a.f t) L.i (let u = t.room in omega arith) _ _ c.wide.ensures c.wide-in-loop-i.ensures).cell in (
-      omega arith,
+    let h : L.i < a.f.used = omega arith in
+    let is = c.cell.ensures in (
       omega arith,
       (omega arith, omega arith),
       λ ss q. marking-next a.f t q.fitting L.i h (after a.w ss) (take L.n L.at) (take L.n L.weights) _ _ (rises-after a.list.now a.counts.now a.w ss q.asked)
-          (omega (arith, length-take c.mark_cell-n.result c.mark_cell-n.new.at)) (L.invariant.3 ss q)
+          (omega (arith, length-take c.mark_cell-n.result c.mark_cell-n.new.at)) (L.invariant.2 ss q)
           _ is (c.mark_cell-n.ensures.marks ss q.asked
           (subst (Aims a.w ss) (sym (is ∙ cell-is a.f t L.i)) (q.cells (get_or (used_cells a.f) L.i zero_cell) (at_mem (used_cells a.f) L.i zero_cell (omega (arith, cells-used a.f t)))))),
     )
@@ -41,5 +40,5 @@ returns c =
     let e : length (used_cells c.args.f) ≤ L.i = omega (arith, cells-used c.args.f c.requires.tidy) in
     record {
       range = omega arith;
-      marks = λ ss q. rw (take_all L.i (used_cells c.args.f) e) at (L.invariant.3 ss q).marked;
+      marks = λ ss q. rw (take_all L.i (used_cells c.args.f) e) at (L.invariant.2 ss q).marked;
     }

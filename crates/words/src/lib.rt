@@ -13,25 +13,7 @@ use forecast::Forecast;
 fn narrow(x: u64) -> u8
     ensures { result ≡ capped x }
 {
-    if x <= 255 {
-        return x as u8;
-    }
-    255
-}
-
-fn narrow_used(x: u64) -> usize
-    ensures { result ≡ capped x }
-{
-    if x <= 255 {
-        return x as usize;
-    }
-    255
-}
-
-fn wide(x: u8) -> u64
-    ensures { result ≡ x }
-{
-    x as u64
+    u8::try_from(x).unwrap_or(255)
 }
 
 // The forecast that the words show, as far as bytes hold it.
@@ -40,14 +22,12 @@ pub fn read_forecast(words: &[u64]) -> Forecast
     ensures { result ≡ saturated (forecast_in words.now) }
 {
     let mut forecast = Forecast::empty();
-    forecast.used = narrow_used(words[0]);
-    let mut i: usize = 0;
-    while i < 12 {
+    forecast.used = usize::from(narrow(words[0]));
+    for i in 0..12 {
         let at = 3 * i + 1;
         forecast.markers[i] = words[at];
         forecast.segments[i] = narrow(words[at + 1]);
         forecast.counts[i] = narrow(words[at + 2]);
-        i += 1;
     }
     forecast
 }
@@ -58,12 +38,10 @@ pub fn write_forecast(forecast: Forecast, words: &mut [u64])
     ensures { words.new ≡ forecast_words forecast }
 {
     words[0] = forecast.used as u64;
-    let mut i: usize = 0;
-    while i < 12 {
+    for i in 0..12 {
         let at = 3 * i + 1;
         words[at] = forecast.markers[i];
-        words[at + 1] = wide(forecast.segments[i]);
-        words[at + 2] = wide(forecast.counts[i]);
-        i += 1;
+        words[at + 1] = u64::from(forecast.segments[i]);
+        words[at + 2] = u64::from(forecast.counts[i]);
     }
 }

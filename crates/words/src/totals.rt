@@ -22,8 +22,5 @@ pub fn write_totals(totals: Totals, words: &mut [u32])
     requires { length words.old ≡ 4 }
     ensures { words.new ≡ totals_words totals }
 {
-    words[0] = totals.worked;
-    words[1] = totals.refused;
-    words[2] = totals.moved;
-    words[3] = totals.sweeps;
+    words.copy_from_slice(&[totals.worked, totals.refused, totals.moved, totals.sweeps]);
 }

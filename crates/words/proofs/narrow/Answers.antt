@@ -1,10 +1,9 @@
 -- `words::narrow` meets its contract.
-use mathlib.Core.Path.{sym}
-use Rattle.words.proofs.Capped.{capped_small, capped-big}
+use Rattle.std.proofs.Common.{arith}
+use Rattle.std.proofs.lemmas.Grind.{common_steps}
+use Rattle.words.specs.Words.{capped}
 use Rattle.words.proofs.narrow.Goals as goal
 
-pub returns-then-x-le255 : goal.returns-then-x-le255
-returns-then-x-le255 c = sym (capped_small _ c.if-x-le255.true)
-
 pub returns : goal.returns
-returns c = sym (capped-big _ c.if-x-le255.false)
+unfolding capped
+returns c = grind (arith, common_steps)

@@ -1,5 +1,5 @@
 -- `words::read_forecast` meets its contract: the rows below i are those of the words.
-use Prim.Native.Nat.{ℕ, ◌-◌, ◌≤◌}
+use Prim.Native.Nat.{ℕ}
 use mathlib.Core.Path.{◌≡◌}
 use lib.ListN.{get_or}
 use Rattle.lists.proofs.Overwritten.{written}
@@ -17,8 +17,5 @@ count c = capped c.count
 
 abbrev pub invariant-loop-i : goal.invariant-loop-i
 invariant-loop-i l =
-    (l.i ≤ 12) × Roomy l.initial.forecast × (l.forecast.used ≡ capped (get_or l.words 0 0)) × (l.forecast.markers ≡ written (field (λ c. c.marker) l.words) l.initial.forecast.markers l.i)
+    Roomy l.initial.forecast × (l.forecast.used ≡ capped (get_or l.words 0 0)) × (l.forecast.markers ≡ written (field (λ c. c.marker) l.words) l.initial.forecast.markers l.i)
     × (l.forecast.segments ≡ written (field segment l.words) l.initial.forecast.segments l.i) × (l.forecast.counts ≡ written (field count l.words) l.initial.forecast.counts l.i)
-
-abbrev pub decreases-loop-i : goal.decreases-loop-i
-decreases-loop-i l = 12 - l.i

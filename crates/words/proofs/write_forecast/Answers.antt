@@ -13,7 +13,7 @@ roomy s = record { markers = search rules; segments = search rules; counts = sea
 
 pub loop-i-init : goal.loop-i-init
 loop-i-init c =
-    (omega arith, rw length-set c.requires, rw length-set c.requires, write-start c.args.forecast c.args.words.now (omega (arith, c.requires)))
+    (rw length-set c.requires, rw length-set c.requires, write-start c.args.forecast c.args.words.now (omega (arith, c.requires)))
 
 pub bounds-words-at-in-loop-i : goal.bounds-words-at-in-loop-i
 bounds-words-at-in-loop-i c = simp length-set (omega arith)
@@ -24,9 +24,9 @@ bounds-words-at-in-loop-i-2 c = simp length-set (omega arith)
 pub loop-i-preserved : goal.loop-i-preserved
 loop-i-preserved c =
     let v = c.loop-i in
-    (omega arith, v.invariant.1, simp length-set v.invariant.2, write-turn c.args.forecast (roomy (goal.at.loop-i-preserved c).Start) _ v.invariant.1 v.words v.i (omega arith) v.invariant.3 _ _ c.wide.ensures c.wide-in-loop-i.ensures)
+    (v.invariant.0, simp length-set v.invariant.1, write-turn c.args.forecast (roomy (goal.at.loop-i-preserved c).Start) _ v.invariant.0 v.words v.i (omega arith) v.invariant.2 _ _ c.from.ensures c.from-in-loop-i.ensures)
 
 pub returns : goal.returns
 returns c =
     let v = c.loop-i in
-    write-end c.args.forecast (roomy (goal.at.returns c).Start) _ v.invariant.1 v.words v.i (omega arith) v.invariant.3
+    write-end c.args.forecast (roomy (goal.at.returns c).Start) _ v.invariant.0 v.words v.i (omega arith) v.invariant.2

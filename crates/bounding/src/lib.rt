@@ -10,20 +10,14 @@ ghost use Rattle.seats.specs.Bounds.{top, bound_at, bound_by, bounds_of, Bounded
 fn bound_by(head: u64, later: u64) -> u64
     ensures { result ≡ bound_by head later }
 {
-    if head == 0 {
-        return later;
-    }
-    head - 1
+    head.checked_sub(1).unwrap_or(later)
 }
 
 // The bound after segment `e`: none where it is the last.
 fn bound_from(bounds: &[u64], e: usize) -> u64
     ensures { (e < length bounds.now → result ≡ get_or bounds.now e 0) × (length bounds.now ≤ e → result ≡ top) }
 {
-    if e < bounds.len() {
-        return bounds[e];
-    }
-    18446744073709551615
+    bounds.get(e).copied().unwrap_or(u64::MAX)
 }
 
 // The bounds of the segments from `a` up to `e`, where that of `e` is `later`; the answer is that of `a`.
@@ -32,9 +26,7 @@ fn rebound_from(list: &[u64], bounds: &mut [u64], a: usize, e: usize, later: u64
     ensures { (m : ℕ) (ss : Segments) → Shows ss list.now → Near m ss a e bounds.old → later ≡ bound_at ss e → Near m ss a a bounds.new × (result ≡ bound_at ss a) }
 {
     let mut b = later;
-    let mut s = e;
-    while a < s {
-        s -= 1;
+    for s in (a..e).rev() {
         b = bound_by(list[64 * s], b);
         bounds[s] = b;
     }
@@ -46,9 +38,7 @@ fn rebound_before(list: &[u64], bounds: &mut [u64], a: usize, b: u64)
     requires { (a ≤ 64) × (64 * a ≤ length list.now) × (length bounds.old ≡ 64) }
     ensures { (m : ℕ) (ss : Segments) → Shows ss list.now → Near m ss a a bounds.old → b ≡ bound_at ss a → Bounded m ss bounds.new }
 {
-    let mut s = a;
-    while 0 < s {
-        s -= 1;
+    for s in (0..a).rev() {
         if list[64 * s] != 0 {
             return;
         }
@@ -72,5 +62,5 @@ pub fn bound(list: &[u64], bounds: &mut [u64])
     requires by_index { (k : ℕ) → length list.now / 64 ≤ k → k < 64 → get_or bounds.old k 0 ≡ top }
     ensures { (ss : Segments) → Shows ss list.now → bounds.new ≡ bounds_of ss }
 {
-    rebound_from(list, bounds, 0, list.len() / 64, 18446744073709551615);
+    rebound_from(list, bounds, 0, list.len() / 64, u64::MAX);
 }

@@ -7,17 +7,7 @@ pub fn count_keys(segment: &[u64]) -> usize
     ensures range { result ≤ length segment.now }
     ensures keys { (ks : List ℕ) → All (λ k. 0 < k) ks → length ks ≤ length segment.now → segment.now ≡ padded (length segment.now) 0 ks → result ≡ length ks }
 {
-    let mut lo = 0;
-    let mut hi = segment.len();
-    while lo < hi {
-        let mid = lo + (hi - lo) / 2;
-        if segment[mid] == 0 {
-            hi = mid;
-        } else {
-            lo = mid + 1;
-        }
-    }
-    lo
+    segment.partition_point(|x| *x != 0)
 }
 
 // The keys of the segments from `first` up to `end`, by the counts of the segments.
@@ -26,11 +16,5 @@ pub fn keys_in(counts: &[usize], first: usize, end: usize) -> usize
     ensures range { result ≤ 64 * (end - first) }
     ensures sum { result ≡ total (take (end - first) (drop first counts.now)) }
 {
-    let mut sum = 0;
-    let mut i = first;
-    while i < end {
-        sum += counts[i];
-        i += 1;
-    }
-    sum
+    counts[first..end].iter().sum()
 }

@@ -14,17 +14,7 @@ pub fn position(part: &[u64], n: usize, key: u64) -> usize
     ensures range { result ≤ n }
     ensures place { Rising (take n part.now) → result ≡ length (below key (take n part.now)) }
 {
-    let mut lo = 0;
-    let mut hi = n;
-    while lo < hi {
-        let mid = lo + (hi - lo) / 2;
-        if part[mid] < key {
-            lo = mid + 1;
-        } else {
-            hi = mid;
-        }
-    }
-    lo
+    part[..n].partition_point(|x| *x < key)
 }
 
 // Of the segments from `a` to `mid`, the last that is not empty; `a` where all after it are empty.
@@ -32,14 +22,12 @@ fn last_filled(list: &[u64], a: usize, mid: usize) -> usize
     requires { (a ≤ mid) × (64 * mid + 64 ≤ length list.now) }
     ensures { Filled list.now a mid result }
 {
-    let mut s = mid;
-    while a < s {
+    for s in (a + 1..mid + 1).rev() {
         if list[64 * s] != 0 {
             return s;
         }
-        s -= 1;
     }
-    s
+    a
 }
 
 // The segment where a search for `key` ends: that of the key, or of its predecessor.
@@ -49,6 +37,7 @@ pub fn find_segment(list: &[u64], key: u64) -> usize
     ensures place { (ss : Segments) → Shows ss list.now → result ≡ seat key ss }
 {
     // Segments from `best` + 1 up to `a` are empty, and those from `b` on begin above `key`.
+    // By hand: empty segments are passed over on the way, so that std's halving does not fit.
     let mut best = 0;
     let mut a = 0;
     let mut b = list.len() / 64;
@@ -58,13 +47,11 @@ pub fn find_segment(list: &[u64], key: u64) -> usize
         let head = list[64 * s];
         if head == 0 {
             a = mid + 1;
+        } else if head <= key {
+            best = s;
+            a = mid + 1;
         } else {
-            if head <= key {
-                best = s;
-                a = mid + 1;
-            } else {
-                b = s;
-            }
+            b = s;
         }
     }
     best
@@ -77,14 +64,10 @@ pub fn locate(list: &[u64], key: u64) -> Place
     ensures place { (ss : Segments) → Shows ss list.now → Located key ss result }
 {
     let segment = find_segment(list, key);
-    let a = 64 * segment;
-    let e = a + 64;
-    let held = count_keys(&list[a..e]);
-    let at = position(&list[a..e], held, key);
-    let mut present = false;
-    if at < held {
-        present = list[a + at] == key;
-    }
+    let part = &list[64 * segment..64 * segment + 64];
+    let held = count_keys(part);
+    let at = position(part, held, key);
+    let present = at < held && part[at] == key;
     Place {
         segment,
         held,
@@ -100,15 +83,7 @@ pub fn stands_in(list: &[u64], segment: usize, key: u64) -> bool
     if list.len() / 64 <= segment {
         return false;
     }
-    let a = 64 * segment;
-    let mut at = 0;
-    let mut step = 32;
-    while 0 < step {
-        let x = list[a + at + step];
-        if x != 0 && x <= key {
-            at += step;
-        }
-        step /= 2;
-    }
-    list[a + at] == key
+    let part = &list[64 * segment..64 * segment + 64];
+    let at = part.partition_point(|x| x.wrapping_sub(1) < key);
+    0 < at && part[at - 1] == key
 }

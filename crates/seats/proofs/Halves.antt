@@ -1,26 +1,47 @@
 -- Six steps up find the last of 64 entries that passes, where an entry passes if a later one does.
-use mathlib.Core.Path.{◌≡◌, refl, sym, subst}
+use mathlib.Core.Path.{◌≡◌, refl, ap, subst}
 use mathlib.Core.Bool.{Bool, true, false, not}
 use mathlib.Core.Logic.{◌⊎◌, inl, inr}
-use Prim.Native.Nat.{ℕ, ◌+◌, ◌≤◌, ◌<◌}
+use mathlib.Core.List.{List, [], ◌∷◌}
+use Prim.Native.Nat.{ℕ, zero, suc, ◌+◌, ◌≤◌, ◌<◌}
 use native.Mathlib.Omega.{arith}
 use lib.Dec.{T, not_T}
+use lib.ListN.{length, drop, get_or, drop_of_length-le}
+use Rattle.lists.specs.Lists.{total}
 use Rattle.std.proofs.Common.{if◌then◌else◌}
 use Rattle.seats.specs.Halves.{climb, halved, Last}
 
-module _ (t : ℕ → Bool) (s step : ℕ) where
-  pub climb-up : t (s + step) ≡ true → s + step ≡ climb t s step
-  unfolding climb
-  climb-up e = sym (rw e refl)
+-- the steps of a list, in turn
+abbrev pub climbs : (ℕ → Bool) → ℕ → List ℕ → ℕ
+climbs t s [] = s
+climbs t s (step ∷ steps) = climbs t (climb t s step) steps
 
-  pub climb-stay : t (s + step) ≡ false → s ≡ climb t s step
-  unfolding climb
-  climb-stay e = sym (rw e refl)
+pub climbs-turn : (t : ℕ → Bool) (s k : ℕ) (steps : List ℕ) → k < length steps → climbs t s (drop k steps) ≡ climbs t (climb t s (get_or steps k 0)) (drop (suc k) steps)
+climbs-turn t s k [] h = absurd (omega arith)
+climbs-turn t s zero (x ∷ xs) h = refl
+climbs-turn t s (suc k) (x ∷ xs) h = climbs-turn t s k xs (omega arith)
 
-pub halved_is : (t : ℕ → Bool) (a b c d e f r : ℕ) → b ≡ climb t a 32 → c ≡ climb t b 16 → d ≡ climb t c 8 → e ≡ climb t d 4 → f ≡ climb t e 2
-    → r ≡ climb t f 1 → r ≡ halved t a
+pub climbs-end : (t : ℕ → Bool) (s k : ℕ) (steps : List ℕ) → length steps ≤ k → climbs t s (drop k steps) ≡ s
+climbs-end t s k steps h = ap (climbs t s) (drop_of_length-le steps h)
+
+-- how far they go at most
+pub total-turn : (k : ℕ) (steps : List ℕ) → k < length steps → total (drop k steps) ≡ get_or steps k 0 + total (drop (suc k) steps)
+total-turn k [] h = absurd (omega arith)
+total-turn zero (x ∷ xs) h = refl
+total-turn (suc k) (x ∷ xs) h = total-turn k xs (omega arith)
+
+pub climbs-halved : (t : ℕ → Bool) (a : ℕ) → climbs t a (32 ∷ 16 ∷ 8 ∷ 4 ∷ 2 ∷ 1 ∷ []) ≡ halved t a
 unfolding halved
-halved_is t a b c d e f r p q u v w x = cc
+climbs-halved t a = refl
+
+module _ (t : ℕ → Bool) (s step : ℕ) where
+  pub climb-up : t (s + step) ≡ true → climb t s step ≡ s + step
+  unfolding climb
+  climb-up e = rw e refl
+
+  pub climb-stay : t (s + step) ≡ false → climb t s step ≡ s
+  unfolding climb
+  climb-stay e = rw e refl
 
 -- Entry s passes or is the first, and none passes from s + w on.
 record Within (t : ℕ → Bool) (a s w : ℕ) : Type 0 where

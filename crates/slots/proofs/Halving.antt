@@ -20,20 +20,16 @@ use Rattle.slots.proofs.Padded.{past-keys}
 use Rattle.slots.proofs.Keys.{member→mem, mem→member}
 
 -- A SEGMENT
--- a slot with a gap is past the keys, and one with a key is not
+-- the slots of the keys hold keys, and those after them gaps
 module _ (slots ks : List ℕ) (n : ℕ) (live : All (λ k. 0 < k) ks) (whole : slots ≡ padded n 0 ks) where
   same-slot : (i : ℕ) → get_or slots i 0 ≡ get_or ks i 0
   same-slot i = ap (λ (l : List ℕ). get_or l i 0) whole ∙ get_or-padded n 0 ks i
 
-  pub gap-past : (i : ℕ) → get_or slots i 0 ≡ 0 → length ks ≤ i
-  gap-past i e = past-keys ks i live (sym (same-slot i) ∙ e)
+  pub key-at : (i : ℕ) → i < length ks → get_or slots i 0 ≢ 0
+  key-at i h e = absurd (omega (arith, past-keys ks i live (sym (same-slot i) ∙ e)))
 
-  pub key-within : (i : ℕ) → get_or slots i 0 ≢ 0 → i < length ks
-  key-within i n =
-      elim (dec_lt i (length ks)) [
-        | yes h ↦ h
-        | no h ↦ absurd (n (same-slot i ∙ get_or-eq_default ks 0 (omega arith)))
-      ]
+  pub gap-from : (i : ℕ) → length ks ≤ i → get_or slots i 0 ≡ 0
+  gap-from i h = same-slot i ∙ get_or-eq_default ks 0 h
 
 -- A RISING LIST
 -- later keys are larger
@@ -72,6 +68,9 @@ below-place y (x ∷ xs) r (suc i) h l =
     let k : i < length xs = omega arith in
     let p : x < y = omega (arith, r.0 (get_or xs i 0) (at_mem xs i 0 k)) in
     rw (lt-ltb x y p) (omega (arith, below-place y xs r.1 i k l))
+
+pub past-place : (y : ℕ) (xs : List ℕ) → Rising xs → (i : ℕ) → length (below y xs) ≤ i → i < length xs → y ≤ get_or xs i 0
+past-place y xs r i h l = elim (dec_lt (get_or xs i 0) y) [ yes m ↦ absurd (omega (arith, below-place y xs r i l m)) | no m ↦ omega arith ]
 
 -- a key of the list has as many below it as stand before it
 pub place_of : (y : ℕ) (xs : List ℕ) → Rising xs → Mem y xs → (length (below y xs) < length xs) × (get_or xs (length (below y xs)) 0 ≡ y)

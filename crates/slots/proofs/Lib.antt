@@ -12,6 +12,7 @@ pub mod Carried
 pub mod Within
 pub mod ByPlace
 pub mod Halving
+pub mod Points
 pub mod Seats
 pub mod Heads
 pub mod Tallies

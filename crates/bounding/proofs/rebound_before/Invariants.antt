@@ -9,6 +9,3 @@ use Rattle.bounding.proofs.rebound_before.Given as goal
 
 abbrev pub invariant-loop-s : goal.invariant-loop-s
 invariant-loop-s l = (l.s ≤ l.a) × (length l.bounds ≡ 64) × ((m : ℕ) (ss : Segments) → Shows ss l.list → Near m ss l.a l.a l.initial.bounds → l.b ≡ bound_at ss l.a → Near m ss l.s l.s l.bounds × (l.b ≡ bound_at ss l.s))
-
-abbrev pub decreases-loop-s : goal.decreases-loop-s
-decreases-loop-s l = l.s

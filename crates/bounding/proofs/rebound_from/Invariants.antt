@@ -10,6 +10,3 @@ use Rattle.bounding.proofs.rebound_from.Given as goal
 abbrev pub invariant-loop-s : goal.invariant-loop-s
 invariant-loop-s l = (l.a ≤ l.s) × (l.s ≤ l.e) × (length l.bounds ≡ 64)
     × ((m : ℕ) (ss : Segments) → Shows ss l.list → Near m ss l.a l.e l.initial.bounds → l.later ≡ bound_at ss l.e → Near m ss l.a l.s l.bounds × (l.b ≡ bound_at ss l.s))
-
-abbrev pub decreases-loop-s : goal.decreases-loop-s
-decreases-loop-s l = l.s

@@ -1,29 +1,11 @@
--- `count_keys` counts the keys that a segment holds first. The loop's invariant: their number is from `lo` to `hi`.
-use Prim.Native.Nat.{◌+◌, ◌-◌, ◌/◌}
-use native.Mathlib.Omega.{arith}
-use lib.ListN.{length}
-use Rattle.slots.proofs.Halving.{gap-past, key-within}
+-- `count_keys` counts the keys that a segment holds first: a slot holds a key just where it is before the gaps.
+use Rattle.std.proofs.Common.{not, eqb, length, ap, rules, eq-eqb, ne_eqb}
+use Rattle.slots.proofs.Halving.{key-at, gap-from}
+use Rattle.slots.proofs.Points.{point-is}
 use Rattle.places.proofs.counting.count_keys.Goals as goal
 
-pub loop-lo-init : goal.loop-lo-init
-loop-lo-init c = (omega arith, omega arith, λ ks live fits whole. (omega arith, fits))
-
-pub loop-lo-preserved-then-segment-mid-eq0 : goal.loop-lo-preserved-then-segment-mid-eq0
-loop-lo-preserved-then-segment-mid-eq0 c =
+pub returns-clause-keys : goal.returns-clause-keys
+returns-clause-keys c ks live fits whole =
     let l = c.args.segment.now in
-    let loop = c.loop-lo in
-    let mid = loop.lo + (loop.hi - loop.lo) / 2 in
-    (omega arith, omega arith, λ ks live fits whole. ((loop.invariant.2 ks live fits whole).0, gap-past l ks (length l) live whole mid c.if-segment-mid-eq0.true))
-
-pub loop-lo-preserved : goal.loop-lo-preserved
-loop-lo-preserved c =
-    let l = c.args.segment.now in
-    let loop = c.loop-lo in
-    let mid = loop.lo + (loop.hi - loop.lo) / 2 in
-    (omega arith, omega arith, λ ks live fits whole. (omega (arith, key-within l ks (length l) live whole mid c.if-segment-mid-eq0.false), (loop.invariant.2 ks live fits whole).1))
-
-pub returns : goal.returns
-returns c = record {
-  range = omega arith;
-  keys = λ ks live fits whole. omega (arith, c.loop-lo.invariant.2 ks live fits whole);
-}
+    point-is (λ x. not (eqb x 0)) l (length ks) fits (λ k h. ap not (ne_eqb _ _ (key-at l ks (length l) live whole k h)))
+    (λ k h m. ap not (eq-eqb _ _ (gap-from l ks (length l) live whole k h))) _ c.partition_point.ensures.bound c.partition_point.ensures.partitioned (λ a r q k. search rules)

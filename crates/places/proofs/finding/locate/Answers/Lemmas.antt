@@ -1,10 +1,12 @@
 -- What is found in the segment where a search ends, from what the count and the position promise.
 use mathlib.Core.Path.{◌≡◌, refl, ap, ◌∙◌}
-use mathlib.Core.Bool.{Bool, false}
+use mathlib.Core.Bool.{Bool}
 use mathlib.Core.List.{List, []}
 use Prim.Native.Nat.{ℕ, ◌+◌, ◌-◌, ◌*◌, ◌≤◌, ◌<◌}
 use native.Mathlib.Omega.{arith}
-use lib.Dec.{eqb}
+use lib.Dec.{eqb, ltb}
+use lib.Seq.{get_or-take, get_or-drop}
+use borrow.Author.Tests.{le-ltb}
 use lib.ListN.{length, take, drop, get_or}
 use Rattle.lists.specs.Lists.{All, padded}
 use Rattle.lists.proofs.Fill.{take-padded-all}
@@ -57,14 +59,15 @@ module _
         }
 
     -- the key's place is one of the segment's keys: the slot there tells
-    pub located-slot : at < held → Located key ss (record { segment = s; held = held; at = at; present = eqb (slot_at list (64 * s + at)) key })
+    pub located-slot : at < held → Located key ss (record { segment = s; held = held; at = at; present = eqb (get_or (lent list s) at 0) key })
     located-slot h =
-        let x : slot_at list (64 * s + at) ≡ get_or (get_or ss s []) (length (below key (get_or ss s []))) 0 =
-        ap (λ (l : List ℕ). slot_at l (64 * s + at)) sh.whole ∙ slot-render 0 ss sh.fits s at (omega (arith, held-there, shown-few ss list sh s room))
-        ∙ ap (slot_at (get_or ss s [])) at_there in
-        located (eqb (slot_at list (64 * s + at)) key)
+        let inside : at < 64 = omega (arith, held-there, shown-few ss list sh s room) in
+        let x : get_or (lent list s) at 0 ≡ get_or (get_or ss s []) (length (below key (get_or ss s []))) 0 =
+        get_or-take (64 * s + 64 - 64 * s) (drop (64 * s) list) at 0 (omega arith) ∙ get_or-drop (64 * s) list at 0
+        ∙ ap (λ (l : List ℕ). slot_at l (64 * s + at)) sh.whole ∙ slot-render 0 ss sh.fits s at inside ∙ ap (slot_at (get_or ss s [])) at_there in
+        located (eqb (get_or (lent list s) at 0) key)
         (ap (λ (k : ℕ). eqb k key) x ∙ found key (get_or ss s []) rises (omega (arith, held-there, at_there)) ∙ member-there)
 
     -- it is past them: the key is not live
-    pub located-past : held ≤ at → Located key ss (record { segment = s; held = held; at = at; present = false })
-    located-past h = located false (not_found key (get_or ss s []) rises (omega (arith, held-there, at_there)) ∙ member-there)
+    pub located-past : held ≤ at → Located key ss (record { segment = s; held = held; at = at; present = ltb at held })
+    located-past h = located (ltb at held) (le-ltb at held h ∙ not_found key (get_or ss s []) rises (omega (arith, held-there, at_there)) ∙ member-there)

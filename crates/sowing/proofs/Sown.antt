@@ -15,6 +15,7 @@ use Rattle.lists.proofs.Fill.{length_without}
 use Rattle.moves.specs.Moves.{Packed}
 use Rattle.gaps.specs.Gaps.{closed}
 use Rattle.spreads.proofs.Packing.{total-all}
+use Rattle.spreads.proofs.Inserting.{insert-keys}
 use Rattle.slots.specs.Segments.{Segments, keys, segments_of, render}
 use Rattle.slots.specs.Keys.{changed}
 use Rattle.slots.proofs.Keys.{member→mem}
@@ -67,12 +68,12 @@ module _ {w counts plan : List ℕ} {p y : ℕ} {grows : Bool} (d : Planted w co
     pub up_to : p < r + 1
     up_to = omega (arith, d.place, many, only-length (λ k. ltb k y) ks)
 
-    pub put_in : {w₂ : List ℕ} → grows ≡ true → w₂ ≡ render 0 (deal plan (insert_at p y (take (r + 1 - 1) w₁)))
+    pub put_in : {w₂ : List ℕ} → grows ≡ true → w₂ ≡ render 0 (deal plan (take (r + 1) (insert_at p y w₁)))
         → w₂ ≡ render 0 (deal plan (changed grows y ks))
     put_in g e =
         let k : r + 1 - 1 ≡ r = omega arith in
-        let q : insert_at p y (take (r + 1 - 1) w₁) ≡ changed grows y ks =
-        ap (λ (n : ℕ). insert_at p y (take n w₁)) k ∙ ap (insert_at p y) front
+        let q : take (r + 1) (insert_at p y w₁) ≡ changed grows y ks =
+        insert-keys y w₁ (r + 1) p up_to ∙ ap (λ (n : ℕ). insert_at p y (take n w₁)) k ∙ ap (insert_at p y) front
         ∙ ap (λ (n : ℕ). insert_at n y ks) d.place ∙ sym (put-at y ks d.shows.listed.rising (d.grown g).1)
         ∙ sym (ap (λ (b : Bool). changed b y ks) g) in
         e ∙ ap (λ (l : List ℕ). render 0 (deal plan l)) q

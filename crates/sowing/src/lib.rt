@@ -7,6 +7,8 @@ ghost use Rattle.slots.specs.Segments.{keys, segments_of, render};
 ghost use Rattle.slots.specs.Keys.{changed};
 ghost use Rattle.sowing.specs.Sown.{Planted};
 
+use spreads::Newcomer;
+
 // `counts` are those of the segments before, `plan` those after; `p` is the key's place among the window's keys, and `card`
 // that of a key put in.
 pub fn sow(
@@ -26,9 +28,14 @@ pub fn sow(
 {
     let m = spreads::pack(window, cards, counts);
     if grows {
-        spreads::spread_in(window, cards, plan, m + 1, p, key, card);
+        let newcomer = Newcomer {
+            place: p,
+            key,
+            card,
+        };
+        spreads::spread(window, cards, plan, m + 1, Some(newcomer));
         return;
     }
     gaps::close_gap(window, cards, m, p);
-    spreads::spread(window, cards, plan, m - 1);
+    spreads::spread(window, cards, plan, m - 1, None);
 }

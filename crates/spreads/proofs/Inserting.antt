@@ -7,16 +7,19 @@ use native.Mathlib.Omega.{arith}
 use mathlib.Core.List.{List, [], ◌∷◌, ◌++◌, append_assoc}
 use lib.ListN.{length, get_or, set, take, drop, length-append, length-take, length-drop}
 use lib.Seq.{paste, set_split, take_at, drop_at, length-take-le, take-append-le, take-append-add, drop-append-le, take-take}
+use Rattle.std.specs.Prelude.{Option, Some, None}
 use Rattle.lists.specs.Lists.{total, insert_at}
 use Rattle.moves.specs.Moves.{moved}
 use Rattle.moves.proofs.Fronts.{part-alike, take-drop}
 use Rattle.gaps.specs.Gaps.{cleared}
 use Rattle.gaps.proofs.Gaps.{length-insert_at}
+use Rattle.spreads.specs.declared.Newcomer.{Newcomer}
+use Rattle.spreads.specs.Newcomers.{entered, Among}
 use Rattle.spreads.proofs.Packing.{total-bound}
 use Rattle.spreads.proofs.Laying.{Laid, laid-front, laid-down}
 
--- Where the laying of m keys, the one at p put in on the way, has come to: segment s is next, and so many of the keys are not yet laid.
-pub record Laying {A : Type 0} (counts : List ℕ) (l : List A) (m p s at : ℕ) : Type 0 where
+-- Where the laying of m keys, the newcomer put in on the way, has come to: segment s is next, and so many of the keys are not yet laid.
+pub record Laying (counts l : List ℕ) (x : Option Newcomer) (m s at : ℕ) : Type 0 where
   pub some : 0 < s
   pub up_to : s ≤ length counts
   pub long : length l ≡ 64 * length counts
@@ -24,7 +27,7 @@ pub record Laying {A : Type 0} (counts : List ℕ) (l : List A) (m p s at : ℕ)
   pub sum : at ≡ total (take s counts)
   pub held : at ≤ m
   pub room : m ≤ length l
-  pub among : p < m
+  pub among : Among m x
 
 module _ {A : Type 0} (v : A) where
   -- WITH v PUT IN at place p: past it, before it, and up to a place
@@ -120,15 +123,24 @@ module _ {A : Type 0} (v : A) where
           → w₂ ≡ paste w to (drop at (insert_at p v w)) c
       lay-with w₁ r₁ r₂ = r₂ ∙ ap (λ (t : List A). moved at to (p - at) (set t (to + (p - at)) v)) r₁ ∙ with_it
 
-  -- ONE SEGMENT MORE laid out, from the window w where those from s on are
-  pub laid_in : (z : A) (cs : List ℕ) (l w w₁ w₂ : List A) (m p s at : ℕ) → Laying cs l m p s at → w ≡ Laid z cs (take m (insert_at p v l)) l s at
-      → w₁ ≡ paste w (64 * (s - 1)) (drop (at - get_or cs (s - 1) 0) (insert_at p v w)) (get_or cs (s - 1) 0)
-      → w₂ ≡ cleared (64 * (s - 1) + get_or cs (s - 1) 0) (64 * (s - 1) + 64) z w₁ → w₂ ≡ Laid z cs (take m (insert_at p v l)) l (s - 1) (at - get_or cs (s - 1) 0)
-  laid_in z cs l w w₁ w₂ m p s at x r r₁ r₂ =
-      r₂ ∙ ap (cleared (64 * (s - 1) + get_or cs (s - 1) 0) (64 * (s - 1) + 64) z) (r₁ ∙ ap (λ (t : List A). paste t (64 * (s - 1)) (drop (at - get_or cs (s - 1) 0) (insert_at p v w)) (get_or cs (s - 1) 0)) r)
-      ∙ laid-down z cs (take m (insert_at p v l)) l (insert_at p v w) s at x.some x.up_to x.long x.fits x.sum (omega (arith, x.held, length-take m (insert_at p v l), length-insert_at p v l (omega (arith, x.among, x.room)))) front
-    where
-      front : take at (insert_at p v w) ≡ take at (take m (insert_at p v l))
-      front =
-          insert-alike p at w l (ap (take at) r ∙ laid-front z cs (take m (insert_at p v l)) l s at at (omega (arith, x.sum, total-bound cs s x.fits)) (omega arith))
-          ∙ sym (take-take at m (insert_at p v l) x.held)
+-- A NEWCOMER OR NONE: what is in front is made of what was, and all is no shorter
+entered-alike : (x : Option Newcomer) (n : ℕ) (xs ys : List ℕ) → take n xs ≡ take n ys → take n (entered x xs) ≡ take n (entered x ys)
+entered-alike (Some y) n xs ys e = insert-alike y.key y.place n xs ys e
+entered-alike None n xs ys e = e
+
+length-entered : (x : Option Newcomer) (m : ℕ) (l : List ℕ) → Among m x → m ≤ length l → m ≤ length (entered x l)
+length-entered (Some y) m l h k = omega (arith, h, length-insert_at y.place y.key l (omega (arith, h)))
+length-entered None m l h k = k
+
+-- ONE SEGMENT MORE laid out, from the window w where those from s on are
+pub laid_in : (x : Option Newcomer) (cs l w w₁ w₂ : List ℕ) (m s at : ℕ) → Laying cs l x m s at → w ≡ Laid 0 cs (take m (entered x l)) l s at
+    → w₁ ≡ paste w (64 * (s - 1)) (drop (at - get_or cs (s - 1) 0) (entered x w)) (get_or cs (s - 1) 0)
+    → w₂ ≡ cleared (64 * (s - 1) + get_or cs (s - 1) 0) (64 * (s - 1) + 64) 0 w₁ → w₂ ≡ Laid 0 cs (take m (entered x l)) l (s - 1) (at - get_or cs (s - 1) 0)
+laid_in x cs l w w₁ w₂ m s at d r r₁ r₂ =
+    r₂ ∙ ap (cleared (64 * (s - 1) + get_or cs (s - 1) 0) (64 * (s - 1) + 64) 0) (r₁ ∙ ap (λ (t : List ℕ). paste t (64 * (s - 1)) (drop (at - get_or cs (s - 1) 0) (entered x w)) (get_or cs (s - 1) 0)) r)
+    ∙ laid-down 0 cs (take m (entered x l)) l (entered x w) s at d.some d.up_to d.long d.fits d.sum (omega (arith, d.held, length-take m (entered x l), length-entered x m l d.among d.room)) front
+  where
+    front : take at (entered x w) ≡ take at (take m (entered x l))
+    front =
+        entered-alike x at w l (ap (take at) r ∙ laid-front 0 cs (take m (entered x l)) l s at at (omega (arith, d.sum, total-bound cs s d.fits)) (omega arith))
+        ∙ sym (take-take at m (entered x l) d.held)

@@ -6,11 +6,10 @@ use mathlib.Core.List.{List, ◌++◌, append_assoc, append-nil}
 use lib.ListN.{length, get_or, take, drop, replicate, length-append, length-take, length-drop}
 use lib.Seq.{paste, drop-cons, take_at, drop_at, length-take-le, take-append-le, take-take, drop-drop, drop-length, take_all}
 use Rattle.lists.specs.Lists.{total, padded, deal}
-use Rattle.moves.specs.Moves.{moved}
 use Rattle.gaps.specs.Gaps.{cleared}
 use Rattle.slots.specs.Layout.{pad, render}
 use Rattle.moves.proofs.Fronts.{drop_past, part-alike}
-use Rattle.spreads.proofs.Packing.{total-bound, total-pred}
+use Rattle.spreads.proofs.Packing.{total-pred}
 
 module _ {A : Type 0} where
   -- the keys of one segment laid out, in front of what is laid out already
@@ -80,14 +79,3 @@ module _ {A : Type 0} where
       ∙ subst (λ (n : ℕ). f (Laid z cs ks l n at) (take c (drop (at - c) ks)) ≡ Laid z cs ks l t (at - c)) e₁
       (subst (λ (n : ℕ). f (Laid z cs ks l (suc t) n) (take c (drop (at - c) ks)) ≡ Laid z cs ks l t (at - c)) e₂
       (laid_more z cs ks l t (at - c) (omega arith) e (fits t) (omega arith)))
-
-  -- one segment's keys moved there and what follows them cleared: w, w₁ and w₂ are the window before, between and after
-  pub laid_out : (z : A) (cs : List ℕ) (l w w₁ w₂ : List A) (m s at : ℕ) → 0 < s → s ≤ length cs → length l ≡ 64 * length cs → ((k : ℕ) → get_or cs k 0 ≤ 64) → at ≡ total (take s cs) → at ≤ m
-      → m ≤ length l → w ≡ Laid z cs (take m l) l s at → w₁ ≡ moved (at - get_or cs (s - 1) 0) (64 * (s - 1)) (get_or cs (s - 1) 0) w
-      → w₂ ≡ cleared (64 * (s - 1) + get_or cs (s - 1) 0) (64 * (s - 1) + 64) z w₁ → w₂ ≡ Laid z cs (take m l) l (s - 1) (at - get_or cs (s - 1) 0)
-  laid_out z cs l w w₁ w₂ m s at p h e fits q r b g g₁ g₂ =
-      let c : ℕ = get_or cs (s - 1) 0 in
-      let L : List A = Laid z cs (take m l) l s at in
-      g₂ ∙ ap (cleared (64 * (s - 1) + c) (64 * (s - 1) + 64) z) (g₁ ∙ ap (moved (at - c) (64 * (s - 1)) c) g)
-      ∙ laid-down z cs (take m l) l L s at p h e fits q (omega (arith, length-take m l))
-      (laid-front z cs (take m l) l s at at (omega (arith, total-bound cs s fits)) (omega arith) ∙ sym (take-take at m l r))

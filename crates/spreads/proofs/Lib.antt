@@ -1,3 +1,3 @@
 pub mod Packing
 mod Laying
-mod Inserting
+pub mod Inserting

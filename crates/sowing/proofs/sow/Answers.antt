@@ -26,20 +26,21 @@ pack-m-requires c = let d = given (goal.at.pack-m-requires c).Start in record {
 pub overflow_add-m : goal.overflow_add-m
 overflow_add-m c = omega (arith, (packed (goal.at.overflow_add-m c).After-pack-m).many, keys-few (given (goal.at.overflow_add-m c).Start))
 
-pub spread_in-requires : goal.spread_in-requires
-spread_in-requires c =
-    let d = given (goal.at.spread_in-requires c).Start in
+pub spread-requires : goal.spread-requires
+spread-requires c =
+    let d = given (goal.at.spread-requires c).Start in
+    let p = packed (goal.at.spread-requires c).After-pack-m in
     record {
       window_len = omega (arith, sized d, d.long);
       by_index = d.fits;
-      counts_value = (omega (arith, (packed (goal.at.spread_in-requires c).After-pack-m).many, (d.grown c.if-grows.true).0), omega (arith, up_to d (packed (goal.at.spread_in-requires c).After-pack-m)));
+      counts_value = (omega (arith, p.many, (d.grown c.if-grows.true).0), omega (arith, up_to d p));
       cards_len = omega arith;
     }
 
 pub returns-then-grows : goal.returns-then-grows
 returns-then-grows c =
     let grows = c.if-grows.true in
-    let spreads = c.spread_in.ensures in
+    let spreads = c.spread.ensures in
     record {
       keys = put_in (given (goal.at.returns-then-grows c).Start) (packed (goal.at.returns-then-grows c).After-pack-m) grows spreads.keys;
       cards = λ f z y h. spreads.cards f z (y grows) (c.pack-m.ensures.cards f h);
@@ -56,20 +57,20 @@ close_gap-requires c =
 pub overflow_sub-m : goal.overflow_sub-m
 overflow_sub-m c = omega (arith, among (given (goal.at.overflow_sub-m c).Start) (packed (goal.at.overflow_sub-m c).After-pack-m) c.if-grows.false)
 
-pub spread-requires : goal.spread-requires
-spread-requires c =
-    let d = given (goal.at.spread-requires c).Start in
+pub spread-requires-2 : goal.spread-requires-2
+spread-requires-2 c =
+    let d = given (goal.at.spread-requires-2 c).Start in
     record {
       window_len = omega (arith, sized d, d.long);
       by_index = d.fits;
-      counts_value = omega (arith, (packed (goal.at.spread-requires c).After-pack-m).many, (d.shrunk c.if-grows.false).0);
+      counts_value = (omega (arith, (packed (goal.at.spread-requires-2 c).After-pack-m).many, (d.shrunk c.if-grows.false).0), tt);
       cards_len = omega arith;
     }
 
 pub returns : goal.returns
 returns c =
     let closes = c.close_gap.ensures in
-    let spreads = c.spread.ensures in record {
+    let spreads = c.spread-2.ensures in record {
       keys = taken_out (given (goal.at.returns c).Start) (packed (goal.at.returns c).After-pack-m) c.if-grows.false closes.slots spreads.keys;
-      cards = λ f z y h. spreads.cards f z (closed-kept f _ (c.pack-m.ensures.cards f h) c.pack-m.result c.args.p 0 0 z closes.slots closes.cards);
+      cards = λ f z y h. spreads.cards f z tt (closed-kept f _ (c.pack-m.ensures.cards f h) c.pack-m.result c.args.p 0 0 z closes.slots closes.cards);
     }

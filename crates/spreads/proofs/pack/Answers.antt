@@ -15,13 +15,7 @@ use Rattle.spreads.proofs.pack.Goals as goal
 
 pub loop-s-init : goal.loop-s-init
 unfolding gather
-loop-s-init c = (omega arith, omega arith, refl, refl, refl, refl, refl, λ f h. h)
-
-pub move_left-requires : goal.move_left-requires
-move_left-requires c = record { to_le_from = omega (arith, c.requires.by_index c.loop-s.s); cards_len = omega (arith, c.requires.by_index c.loop-s.s) }
-
-pub overflow_add-at : goal.overflow_add-at
-overflow_add-at c = omega (arith, c.requires.by_index c.loop-s.s)
+loop-s-init c = (omega arith, refl, refl, refl, λ f h. h)
 
 pub loop-s-preserved : goal.loop-s-preserved
 loop-s-preserved c =
@@ -34,13 +28,10 @@ loop-s-preserved c =
     let h : loop.s < length cs = omega arith in
     rw (add-one loop.s) (
       omega arith,
-      omega arith,
       omega (arith, total-suc cs loop.s h),
-      gather-length-suc cs l loop.s loop.at h small c.requires.window_len inv.3,
-      omega arith,
-      omega arith,
-      pack-step cs l loop.window _ loop.s loop.at h inv.1 inv.3 inv.6 moves.slots,
-      λ f k. moved-kept f loop.window (inv.7 f k) (64 * loop.s) loop.at (get_or cs loop.s 0) moves.slots moves.cards,
+      gather-length-suc cs l loop.s loop.at h small c.requires.window_len inv.2,
+      pack-step cs l loop.window _ loop.s loop.at h inv.0 inv.2 inv.3 moves.slots,
+      λ f k. moved-kept f loop.window (inv.4 f k) (64 * loop.s) loop.at (get_or cs loop.s 0) moves.slots moves.cards,
     )
 
 pub returns : goal.returns
@@ -51,6 +42,6 @@ returns c =
     let e : c.loop-s.s ≡ length cs = omega arith in
     let all : take c.loop-s.s cs ≡ cs = ap (λ (n : ℕ). take n cs) e ∙ take-length cs in
     record {
-      keys = record { many = inv.2 ∙ ap total all; slots = inv.6 ∙ ap (λ (t : List ℕ). gather t l ++ drop c.loop-s.at l) all };
-      cards = inv.7;
+      keys = record { many = inv.1 ∙ ap total all; slots = inv.3 ∙ ap (λ (t : List ℕ). gather t l ++ drop c.loop-s.at l) all };
+      cards = inv.4;
     }

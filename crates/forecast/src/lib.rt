@@ -59,10 +59,11 @@ impl Forecast {
 
     // The place of the used cell with this marker, if there is one.
     fn place_of(&self, marker: u64) -> Option<usize>
-        requires { self.now.used ≤ length self.now.markers }
+        requires { self.now.used ≤ 12 }
         ensures { result ≡ position (λ m. m == marker) (take self.now.used self.now.markers) }
     {
-        self.markers[..self.used].iter().position(|m| *m == marker)
+        let at = first_of(&self.markers, marker)?;
+        if at < self.used { Some(at) } else { None }
     }
 
     // An insert notes its predecessor: a live key, or 0 for the front.
@@ -159,6 +160,13 @@ impl Forecast {
         }
         self
     }
+}
+
+// The place of a marker among all 12, unused ones too: a run of tests of one length, which costs less than a loop over those used.
+fn first_of(markers: &[u64; 12], marker: u64) -> Option<usize>
+    ensures { result ≡ position (λ m. m == marker) markers.now }
+{
+    markers.iter().position(|m| *m == marker)
 }
 
 // The segment of a cell that named `segment`: its marker's, by the bounds, where that was one of the `n` from `first` on; else the same.

@@ -1,13 +1,14 @@
 -- Laws of `before`, what stands before slot i in a stretch that begins at a, and of slots that rise from a on.
-use mathlib.Core.Path.{◌≡◌, refl, sym, ap, ◌∙◌}
+use mathlib.Core.Path.{◌≡◌, sym, ap, ◌∙◌, subst}
 use mathlib.Core.Logic.{inl, inr, ◌≢◌}
 use mathlib.Core.List.{List}
 use Prim.Native.Nat.{ℕ, ◌+◌, ◌-◌, ◌≤◌, ◌<◌}
 use native.Mathlib.Nat.{eq-or-lt_of_le}
 use native.Mathlib.Decide.{dec_lt}
 use native.Mathlib.Omega.{arith}
-use borrow.Author.Count.{below_more}
 use borrow.Author.Tests.{eq-eqb, ne_eqb}
+use lib.ListN.{length, take, drop, length-take, length-drop}
+use lib.Seq.{get_or-take, get_or-drop}
 use Rattle.slots.specs.Orders.{slot_at}
 use Rattle.reading.specs.Stretches.{before, Rises}
 
@@ -27,41 +28,45 @@ module _ (xs : List ℕ) (a last i : ℕ) where
       let e : i + 1 - 1 ≡ i = omega arith in
       rw (ne_eqb (i + 1) a n, e)
 
+-- A PART of the slots, from i on
+pub part-at : (xs : List ℕ) (i n k : ℕ) → k < n → slot_at (take n (drop i xs)) k ≡ slot_at xs (i + k)
+part-at xs i n k h = get_or-take n (drop i xs) k 0 h ∙ get_or-drop i xs k 0
+
+module _ (part xs : List ℕ) (i last : ℕ) (at : (k : ℕ) → k < length part → slot_at part k ≡ slot_at xs (i + k)) where
+  part-before : (k : ℕ) → k ≤ length part → before part 0 last k ≡ before xs i last (i + k)
+  part-before k h =
+      elim (dec_lt 0 k) [
+        | yes p ↦
+            let e : i + (k - 1) ≡ i + k - 1 = omega arith in
+            before-later part 0 last k (omega arith) ∙ at (k - 1) (omega arith) ∙ ap (slot_at xs) e ∙ sym (before-later xs i last (i + k) (omega arith))
+        | no p ↦ before-first part 0 last k (omega arith) ∙ sym (before-first xs i last (i + k) (omega arith))
+      ]
+
+  -- where it stops rising, they do
+  pub rises-part : (e r : ℕ) → i + length part ≡ e → Rises part 0 (length part) last r → Rises xs i e last (i + r)
+  rises-part e r q p =
+      record {
+        from = omega arith;
+        to = omega (arith, p.to);
+        rises = λ k h l. let d : i + (k - i) ≡ k = omega arith in
+            subst (λ (n : ℕ). before xs i last n < slot_at xs n) d (omega (arith, part-before (k - i) (omega (arith, p.to)), at (k - i) (omega (arith, p.to)), p.rises (k - i) (omega arith) (omega arith)));
+        stops = λ h. omega (arith, part-before r p.to, at r (omega arith), p.stops (omega arith));
+      }
+
+-- the n from i on
+pub rises-slice : (xs : List ℕ) (i n e last r : ℕ) → i + n ≡ e → e ≤ length xs → Rises (take n (drop i xs)) 0 (length (take n (drop i xs))) last r → Rises xs i e last (i + r)
+rises-slice xs i n e last r q h p =
+    let long : length (take n (drop i xs)) ≡ n = omega (arith, length-take n (drop i xs), length-drop i xs) in
+    rises-part (take n (drop i xs)) xs i last (λ k l. part-at xs i n k (omega (arith, long))) e r (omega (arith, long)) p
+
 -- SLOTS THAT RISE from a up to r
 module _ (xs : List ℕ) (a last : ℕ) where
   abbrev pub Up : ℕ → Type 0
   Up r = (k : ℕ) → k < r → a ≤ k → before xs a last k < slot_at xs k
 
-  -- slot j, the next after slot i, is above it too
-  next_up : (i j : ℕ) → j ≡ i + 1 → a ≤ i → slot_at xs i < slot_at xs j → Up j → Up (j + 1)
-  next_up i j e h l u = below_more _ _ u (λ m. omega (arith, ap (before xs a last) e, before-next xs a last i h))
-
-  -- one to four slots, each above the one before it
-  module _ (p : last < slot_at xs a) where
-    pub up_one : Up (a + 1)
-    up_one = below_more _ _ (λ k l h. absurd (omega arith)) (λ h. omega (arith, before-first xs a last a refl))
-
-    module _ (q : slot_at xs a < slot_at xs (a + 1)) where
-      pub up-two : Up (a + 2)
-      up-two = λ k l. next_up a (a + 1) refl (omega arith) q up_one k (omega arith)
-
-      module _ (r : slot_at xs (a + 1) < slot_at xs (a + 2)) where
-        pub up-three : Up (a + 3)
-        up-three = λ k l. next_up (a + 1) (a + 2) (omega arith) (omega arith) r up-two k (omega arith)
-
-        pub up-four : slot_at xs (a + 2) < slot_at xs (a + 3) → Up (a + 4)
-        up-four s = λ k l. next_up (a + 2) (a + 3) (omega arith) (omega arith) s up-three k (omega arith)
-
-  -- they rise up to r: all, or not further, since slot r is not above slot i before it
+  -- they rise up to r: all
   pub up-all : (r : ℕ) → a ≤ r → Up r → Rises xs a r last r
   up-all r h u = record { from = h; to = omega arith; rises = λ k l q. u k q l; stops = λ l. absurd (omega arith) }
-
-  pub up-stop : (e i r : ℕ) → r ≡ i + 1 → a ≤ i → r ≤ e → Up r → slot_at xs r ≤ slot_at xs i → Rises xs a e last r
-  up-stop e i r q h l u s =
-      record { from = omega arith; to = l; rises = λ k m n. u k n m; stops = λ m. omega (arith, ap (before xs a last) q, before-next xs a last i h) }
-
-  pub up-never : (e : ℕ) → a ≤ e → slot_at xs a ≤ last → Rises xs a e last a
-  up-never e h s = record { from = omega arith; to = h; rises = λ k l q. absurd (omega arith); stops = λ m. omega (arith, before-first xs a last a refl) }
 
   -- where they stop does not depend on where the look ends
   pub rises-far : (e f r : ℕ) → e ≤ f → r < e → Rises xs a e last r → Rises xs a f last r

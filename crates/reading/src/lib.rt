@@ -37,7 +37,7 @@ fn read_short(list: &[u64], a: usize, last: u64, keys: usize) -> Result<usize, D
     ensures { Reads list.now result }
 {
     let n = list.len();
-    let i = rising::rising_rest(list, a, n, last);
+    let i = a + rising::rising(&list[a..], last);
     let j = gaps::gaps_rest(list, i, n);
     if j < n {
         let key = list[j];
@@ -54,12 +54,11 @@ pub fn read_slots(list: &[u64], counts: &mut [usize]) -> Result<usize, Disorder>
     ensures order { Reads list.now result }
     ensures counts { Tallied list.now counts.old counts.new }
 {
-    let n = list.len();
+    let n = list.len() / 64;
     let mut keys = 0;
     let mut last = 0;
-    let mut a = 0;
-    let mut s = 0;
-    while 64 <= n - a {
+    for s in 0..n {
+        let a = 64 * s;
         let e = a + 64;
         let i = rising::rising_whole(list, a, last);
         let j = gaps::gaps_end(list, i, e);
@@ -70,8 +69,6 @@ pub fn read_slots(list: &[u64], counts: &mut [usize]) -> Result<usize, Disorder>
         counts[s] = i - a;
         keys += i - a;
         last = top;
-        a = e;
-        s += 1;
     }
-    read_short(list, a, last, keys)
+    read_short(list, 64 * n, last, keys)
 }

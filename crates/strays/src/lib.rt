@@ -8,7 +8,8 @@ ghost use Rattle.rules.specs.Cards.{gap_card};
 ghost use Rattle.strays.specs.Blanks.{Gathers};
 
 // Cards together, in four lanes: all are 0 where each lane is.
-#[derive(Clone, Copy)]
+// Four numbers, not one, to a fold: in one, the cards of 64 segments half full take 4,000 instructions in place of 2,300.
+#[derive(Clone, Copy, PartialEq, Eq, Debug)]
 pub struct Lanes {
     pub w: u32,
     pub x: u32,
@@ -34,8 +35,7 @@ fn sixteen(cards: &[u32], i: usize, l: Lanes) -> Lanes
     requires { i + 16 ≤ length cards.now }
     ensures { Gathers cards.now i (i + 16) l result }
 {
-    let m = eight(cards, i, l);
-    eight(cards, i + 8, m)
+    eight(cards, i + 8, eight(cards, i, l))
 }
 
 // With the last cards of a segment, from `c` on: one at a time.
@@ -44,10 +44,8 @@ fn few(cards: &[u32], c: usize, l: Lanes) -> Lanes
     ensures { Gathers cards.now c 64 l result }
 {
     let mut all = l;
-    let mut i = c;
-    while i < 64 {
-        all.w = all.w | cards[i];
-        i += 1;
+    for i in c..64 {
+        all.w |= cards[i];
     }
     all
 }
@@ -60,8 +58,7 @@ fn short(cards: &[u32], c: usize, l: Lanes) -> Lanes
     if 56 < c {
         return few(cards, c, l);
     }
-    let m = eight(cards, c, l);
-    eight(cards, 56, m)
+    eight(cards, 56, eight(cards, c, l))
 }
 
 // The same of any number: by sixteens from the end; the first sixteen may overlap those after.
@@ -93,12 +90,8 @@ pub fn stray(cards: &[u32], counts: &[usize], n: usize) -> bool
         y: 0,
         z: 0,
     };
-    let mut s = 0;
-    while s < n {
-        let a = 64 * s;
-        let e = a + 64;
-        all = together(&cards[a..e], counts[s], all);
-        s += 1;
+    for s in 0..n {
+        all = together(&cards[64 * s..64 * s + 64], counts[s], all);
     }
     (all.w | all.x | all.y | all.z) != 0
 }

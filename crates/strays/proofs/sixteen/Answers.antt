@@ -10,5 +10,5 @@ pub returns : goal.returns
 returns c =
     let s = c.args in
     let e : s.i + 8 + 8 ≡ s.i + 16 = omega arith in
-    subst (λ (k : ℕ). Gathers s.cards.now s.i k s.l c.eight.result) e
-    (gathers-after s.cards.now s.i (s.i + 8) (s.i + 8) (s.i + 8 + 8) (omega arith) (omega arith) (omega arith) c.eight-m.ensures c.eight.ensures)
+    subst (λ (k : ℕ). Gathers s.cards.now s.i k s.l c.eight-2.result) e
+    (gathers-after s.cards.now s.i (s.i + 8) (s.i + 8) (s.i + 8 + 8) (omega arith) (omega arith) (omega arith) c.eight.ensures c.eight-2.ensures)

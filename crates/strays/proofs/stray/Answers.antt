@@ -7,7 +7,7 @@ use Rattle.strays.proofs.GapCards.{told_none, told_more, told-gap}
 use Rattle.strays.proofs.stray.Goals as goal
 
 pub loop-s-init : goal.loop-s-init
-loop-s-init c = (omega arith, told_none _ _)
+loop-s-init c = told_none _ _
 
 pub together-all-requires : goal.together-all-requires
 together-all-requires c =
@@ -17,11 +17,11 @@ together-all-requires c =
 pub loop-s-preserved : goal.loop-s-preserved
 loop-s-preserved c =
     let l = c.loop-s in
-    (omega arith, told_more _ _ l.s _ _ l.invariant.1 c.together-all.ensures)
+    told_more _ _ l.s _ _ l.invariant c.together-all.ensures
 
 pub returns : goal.returns
 returns c ss slots sh many each =
     let s = c.args in
     let l = c.loop-s in
     let e : s.n ≡ l.s = omega arith in
-    told-gap s.cards.now s.counts.now ss slots sh l.s (many ∙ e) each l.all l.invariant.1
+    told-gap s.cards.now s.counts.now ss slots sh l.s (many ∙ e) each l.all l.invariant

@@ -1,30 +1,29 @@
--- `reading::gaps::all_gaps` meets its contract. The loop's invariant: the slots from `j` up to `e` are gaps.
-use Prim.Native.Nat.{◌-◌}
-use native.Mathlib.Omega.{arith}
-use Rattle.reading.proofs.Eights.{bare-join, bare-all, eights-bare}
+-- `all_gaps` goes by sixteens, the last of which may overlap those before; or by two eights that may overlap.
+use Rattle.std.proofs.Common.{◌+◌, ◌-◌, ◌*◌, arith}
+use lib.Dec.{eqb→eq}
+use Rattle.reading.proofs.Eights.{none, bare-join, bare-slice, bare-all}
 use Rattle.reading.proofs.gaps.all_gaps.Goals as goal
 
 pub returns-then-e-a : goal.returns-then-e-a
-returns-then-e-a c =
+returns-then-e-a c t =
     let s = c.args in
-    let x = c.bits_of_eight in
-    let y = c.bits_of_eight-then-e-a in
-    eights-bare s.list.now s.a (s.e - 8) s.e x.result y.result (omega arith) (omega arith) (omega arith) x.ensures y.ensures
+    let xs = s.list.now in
+    let two = none _ _ (eqb→eq _ 0 t) in
+    let one = bare-slice xs s.a (s.a + 8 - s.a) (s.a + 8) (omega arith) (omega arith) (c.bits.ensures two.0) in
+    let last = bare-slice xs (s.e - 8) (s.e - (s.e - 8)) s.e (omega arith) (omega arith) (c.bits-then-e-a.ensures two.1) in
+    bare-all xs s.a s.e (omega arith) (bare-join xs s.a (s.e - 8) s.e (λ k h l. one k h (omega arith)) last)
 
-pub loop-j-init : goal.loop-j-init
-loop-j-init c = (omega arith, omega arith, λ k h l. absurd (omega arith))
-
-pub loop-j-preserved : goal.loop-j-preserved
-loop-j-preserved c =
+pub loop-k-preserved : goal.loop-k-preserved
+loop-k-preserved c =
     let s = c.args in
-    let l = c.loop-j in
-    let r = c.sixteen_gaps in
-    let more = r.ensures (rw c.if-not-sixteen_gaps.false tt) in
-    (omega arith, omega arith, bare-join s.list.now (l.j - 16) l.j s.e (λ k h m. more.gaps k h (omega arith)) l.invariant.2)
+    let L = c.loop-k in
+    let i = s.a + 16 * L.k in
+    bare-join s.list.now s.a i (s.a + 16 * (L.k + 1)) L.invariant
+    (bare-slice s.list.now i (i + 16 - i) (s.a + 16 * (L.k + 1)) (omega arith) (omega arith) (c.bits-in-loop-k.ensures c.if-bits-ne0.false))
 
 pub returns : goal.returns
 returns c t =
     let s = c.args in
-    let l = c.loop-j in
-    let more = c.sixteen_gaps-2.ensures t in
-    bare-all s.list.now s.a s.e (omega arith) (bare-join s.list.now s.a l.j s.e (λ k h m. more.gaps k h (omega arith)) l.invariant.2)
+    let xs = s.list.now in
+    let last = bare-slice xs (s.e - 16) (s.e - (s.e - 16)) s.e (omega arith) (omega arith) (c.bits-2.ensures (eqb→eq _ 0 t)) in
+    bare-all xs s.a s.e (omega arith) (bare-join xs s.a (s.e - 16) s.e (λ k h l. c.loop-k.invariant k h (omega arith)) last)

@@ -1,10 +1,7 @@
--- `reading::gaps::all_gaps` meets its contract. The loop's invariant: the slots from `j` up to `e` are gaps.
-use Prim.Native.Nat.{◌≤◌}
+-- The loop's invariant: the slots of the sixteens so far are gaps.
+use Rattle.std.proofs.Common.{◌+◌, ◌*◌}
 use Rattle.reading.proofs.Eights.{Bare}
 use Rattle.reading.proofs.gaps.all_gaps.Given as goal
 
-abbrev pub invariant-loop-j : goal.invariant-loop-j
-invariant-loop-j l = (l.a ≤ l.j) × (l.j ≤ l.e) × Bare l.list l.j l.e
-
-abbrev pub decreases-loop-j : goal.decreases-loop-j
-decreases-loop-j l = l.j
+abbrev pub invariant-loop-k : goal.invariant-loop-k
+invariant-loop-k l = Bare l.list l.a (l.a + 16 * l.k)

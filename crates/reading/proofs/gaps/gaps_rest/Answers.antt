@@ -17,4 +17,4 @@ loop-i-preserved c = (omega arith, omega arith, below_more _ _ c.loop-i.invarian
 pub returns : goal.returns
 returns c =
     let l = c.loop-i in
-    record { from = l.invariant.0; to = l.invariant.1; gaps = λ k h m. l.invariant.2 k m h; stops = λ m. absurd (omega arith) }
+    record { from = omega arith; to = omega arith; gaps = λ k h m. l.invariant.2 k (omega arith) h; stops = λ m. absurd (omega arith) }

@@ -1,11 +1,8 @@
 -- `reading::gaps::gaps_rest` meets its contract. The loop's invariant: the slots from `a` up to `i` are gaps.
 use mathlib.Core.Path.{◌≡◌}
-use Prim.Native.Nat.{ℕ, ◌-◌, ◌≤◌, ◌<◌}
+use Prim.Native.Nat.{ℕ, ◌≤◌, ◌<◌}
 use Rattle.slots.specs.Orders.{slot_at}
 use Rattle.reading.proofs.gaps.gaps_rest.Given as goal
 
 abbrev pub invariant-loop-i : goal.invariant-loop-i
 invariant-loop-i l = (l.a ≤ l.i) × (l.i ≤ l.e) × ((k : ℕ) → k < l.i → l.a ≤ k → slot_at l.list k ≡ 0)
-
-abbrev pub decreases-loop-i : goal.decreases-loop-i
-decreases-loop-i l = l.e - l.i

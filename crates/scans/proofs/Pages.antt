@@ -1,16 +1,18 @@
 -- Keys or cards written into a lent output, stretch by stretch: what is known between two stretches, and where the writing ends.
 use mathlib.Core.Path.{◌≡◌, refl, sym, ap, ap₂, ◌∙◌}
-use mathlib.Core.Bool.{true, false}
+use mathlib.Core.Bool.{Bool, true, false}
 use mathlib.Core.List.{List, [], ◌++◌, map, map-append}
-use Prim.Native.Nat.{ℕ, ◌+◌, ◌≤◌, ◌<◌}
+use Prim.Native.Nat.{ℕ, min, ◌+◌, ◌≤◌, ◌<◌}
+use native.Mathlib.Decide.{dec_lt}
 use native.Mathlib.Omega.{arith}
 use borrow.Author.Tests.{lt-ltb, le-ltb}
 use lib.ListN.{length, take, drop, length-append, length-drop, length-map}
 use lib.Seq.{paste, take_all, take_at, drop_at, take-append-le, drop-append-add, take-take, take-add, drop-drop, length-take-le}
+use Rattle.std.proofs.Common.{if◌then◌else◌}
 use Rattle.lists.proofs.Maps.{map-take}
 use Rattle.gaps.proofs.Natural.{part-kept}
 use Rattle.scans.specs.declared.Written.{Written}
-use Rattle.scans.specs.Scans.{Wrote, cards_over}
+use Rattle.scans.specs.Scans.{Wrote, shorter, cards_over}
 
 -- w of the keys ks are written into out, which is now left, and the others are a stretch and the later ones
 pub record Halfway (ks out left : List ℕ) (w : ℕ) (stretch later : List ℕ) : Type 0 where
@@ -43,11 +45,11 @@ module _ (ks out left later src : List ℕ) (w n : ℕ) (h : Halfway ks out left
       ap₂ {C = List ℕ} (λ p q. p ++ q) (ap₂ {C = List ℕ} (λ p q. p ++ q) first next ∙ sym (take-add w j ks)) last
 
   -- THE WHOLE STRETCH
-  pub halfway-more : (left' : List ℕ) → left' ≡ paste left w src n → Halfway ks out left' (w + n) [] later
-  halfway-more left' e = record {
-    few = enough;
-    rest = sym (drop-drop n w ks) ∙ ap (drop n) h.rest ∙ drop_at (take n src) later n (length-take-le n src l);
-    output = e ∙ copied n (omega arith);
+  pub halfway-more : (left' : List ℕ) (j : ℕ) → j ≡ n → left' ≡ paste left w src j → Halfway ks out left' (w + j) [] later
+  halfway-more left' j k e = record {
+    few = omega (arith, enough);
+    rest = sym (drop-drop j w ks) ∙ ap (drop j) h.rest ∙ drop_at (take n src) later j (length-take-le n src l ∙ sym k);
+    output = e ∙ copied j (omega arith);
   }
 
   -- THE ROOM OF m IS FULL before the stretch ends
@@ -71,6 +73,19 @@ page-ended {ks} {out} {left} {later} {w} m h e k =
       more = sym (le-ltb (length (take m ks)) (length ks) (omega arith));
       output = h.output ∙ ap₂ {C = List ℕ} (λ p j. p ++ drop j out) (take_all w ks (omega arith) ∙ sym page) (all ∙ sym long);
     }
+
+-- the room, as the code finds it
+pub min-shorter : (a b : ℕ) → min a b ≡ shorter a b
+min-shorter a b =
+    elim (dec_lt a b) [
+      | yes h ↦
+          let e : min a b ≡ a = omega arith in
+          e ∙ sym (ap (λ (t : Bool). if t then a else b) (lt-ltb a b h))
+      | no h ↦
+          let k : b ≤ a = omega arith in
+          let e : min a b ≡ b = omega arith in
+          e ∙ sym (ap (λ (t : Bool). if t then a else b) (le-ltb a b k))
+    ]
 
 -- THE CARDS of the keys ks are written in the same way
 pub cards-written : (f : ℕ → ℕ) {n : ℕ} (ks : List ℕ) {out left : List ℕ} {r : Written} → Wrote n (map f ks) out r left → left ≡ cards_over f (take n ks) out

@@ -13,17 +13,6 @@ pub struct Written {
     pub more: bool,
 }
 
-// The smaller of two lengths.
-fn shorter(a: usize, b: usize) -> usize
-    ensures range { (result ≤ a) × (result ≤ b) }
-    ensures is { result ≡ shorter a b }
-{
-    if a < b {
-        return a;
-    }
-    b
-}
-
 // The keys from key `at` of segment `first` on into `output` and their cards into `output_cards`, until either is full or they end.
 pub fn write_keys(
     list: &[u64],
@@ -39,31 +28,25 @@ pub fn write_keys(
     ensures keys { (ss : Segments) → Shows ss list.now → ((k : ℕ) → k < length ss → get_or counts.now k 0 ≡ length (get_or ss k [])) → Wrote (shorter (length output.old) (length output_cards.old)) (keys_from first at ss) output.old result output.new }
     ensures cards { (f : ℕ → ℕ) (ss : Segments) → Shows ss list.now → ((k : ℕ) → k < length ss → get_or counts.now k 0 ≡ length (get_or ss k [])) → cards.now ≡ map f list.now → output_cards.new ≡ cards_over f (take (shorter (length output.old) (length output_cards.old)) (keys_from first at ss)) output_cards.old }
 {
-    let room = shorter(output.len(), output_cards.len());
-    // `w` keys are written; next come the `n` from slot `a` on, and those of the segments from `s` on.
+    let room = output.len().min(output_cards.len());
+    // `w` keys are written; next come those of segment `s` from its key `from` on.
     let mut w = 0;
-    let mut a = 64 * first + at;
-    let mut n = counts[first] - at;
-    let mut s = first + 1;
-    loop {
-        let left = room - w;
-        if left < n {
-            copying::copy(list, cards, a, left, output, output_cards, w);
+    let mut from = at;
+    for s in first..list.len() / 64 {
+        let left = counts[s] - from;
+        let n = left.min(room - w);
+        copying::copy(list, cards, 64 * s + from, n, output, output_cards, w);
+        w += n;
+        if n < left {
             return Written {
-                keys: w + left,
+                keys: w,
                 more: true,
             };
         }
-        copying::copy(list, cards, a, n, output, output_cards, w);
-        w += n;
-        if list.len() / 64 <= s {
-            return Written {
-                keys: w,
-                more: false,
-            };
-        }
-        a = 64 * s;
-        n = counts[s];
-        s += 1;
+        from = 0;
+    }
+    Written {
+        keys: w,
+        more: false,
     }
 }

@@ -1,11 +1,11 @@
 // The forecast: what the latest inserts noted, newest first.
 #![tactic(auto)]
 
-ghost use Rattle.std.specs.Prelude.{◌≡◌, [], ◌+◌, ◌≤◌, ◌<◌, ◌==◌, length, take, get_or, position};
+ghost use Rattle.std.specs.Prelude.{◌≡◌, [], ◌∷◌, ◌+◌, ◌≤◌, ◌<◌, ◌==◌, length, take, get_or, position};
 ghost use Rattle.slots.specs.Segments.{Segments};
 ghost use Rattle.slots.specs.Keys.{Listed, segment_of};
-ghost use Rattle.cells.specs.Cells.{zero_cell, weight};
-ghost use Rattle.cells.specs.Steps.{noted, dropped, retargeted};
+ghost use Rattle.cells.specs.Cells.{cell, zero_cell, weight};
+ghost use Rattle.cells.specs.Steps.{raised, tailed, noted, dropped, retargeted};
 ghost use Rattle.seats.specs.Bounds.{Bounded};
 ghost use Rattle.forecast.specs.Cells.{cells, used_cells};
 ghost use Rattle.forecast.specs.Tidy.{Tidy, Became, Marker, Live, Outside, Elsewhere};
@@ -66,6 +66,51 @@ impl Forecast {
         if at < self.used { Some(at) } else { None }
     }
 
+    // One more for cell `at`, and it changes places with its neighbour toward the head.
+    fn raise(&mut self, at: usize)
+        requires { Tidy self.old × (at < self.old.used) × (get_or self.old.counts at 0 < 12) }
+        ensures { Became (raised at (used_cells self.old)) self.new }
+    {
+        self.counts[at] += 1;
+        if at == 0 {
+            return;
+        }
+        self.segments.swap(at, at - 1);
+        self.counts.swap(at, at - 1);
+        self.markers.swap(at, at - 1);
+    }
+
+    // A new cell at the head, and the last place out.
+    fn put_first(&mut self, marker: u64, segment: u8)
+        requires { Tidy self.old × (self.old.used < 12) }
+        ensures { Became (cell marker segment 1 ∷ used_cells self.old) self.new }
+    {
+        self.segments.copy_within(..11, 1);
+        self.segments[0] = segment;
+        self.counts.copy_within(..11, 1);
+        self.counts[0] = 1;
+        self.markers.copy_within(..11, 1);
+        self.markers[0] = marker;
+        self.used += 1;
+    }
+
+    // One less for the tail, which goes when its count is spent.
+    fn lower_tail(&mut self)
+        requires { Tidy self.old × (0 < self.old.used) }
+        ensures { Became (tailed (used_cells self.old)) self.new }
+    {
+        let tail = self.used - 1;
+        let count = self.counts[tail];
+        if 1 < count {
+            self.counts[tail] = count - 1;
+            return;
+        }
+        self.counts[tail] = 0;
+        self.segments[tail] = 0;
+        self.markers[tail] = 0;
+        self.used = tail;
+    }
+
     // An insert notes its predecessor: a live key, or 0 for the front.
     pub fn note_insert(mut self, p: usize, marker: u64, segment: usize) -> Forecast
         requires tidy { Tidy self }
@@ -74,47 +119,21 @@ impl Forecast {
         requires segment_bound { segment < 64 }
         ensures { Became (noted p marker segment (used_cells self)) result }
     {
-        let used = self.used;
         match self.place_of(marker) {
             Some(at) => {
-                let count = self.counts[at];
-                if usize::from(count) < p {
-                    // One more, and it changes places with its neighbour toward the head.
-                    self.counts[at] = count + 1;
-                    if at == 0 {
-                        return self;
-                    }
-                    self.segments.swap(at, at - 1);
-                    self.counts.swap(at, at - 1);
-                    self.markers.swap(at, at - 1);
+                if usize::from(self.counts[at]) < p {
+                    self.raise(at);
                     return self;
                 }
             }
             None => {
-                if used < p {
-                    // A new cell at the head, and the last place out.
-                    self.segments.copy_within(..11, 1);
-                    self.segments[0] = segment as u8;
-                    self.counts.copy_within(..11, 1);
-                    self.counts[0] = 1;
-                    self.markers.copy_within(..11, 1);
-                    self.markers[0] = marker;
-                    self.used = used + 1;
+                if self.used < p {
+                    self.put_first(marker, segment as u8);
                     return self;
                 }
             }
         }
-        // One less for the tail, which goes when its count is spent.
-        let tail = used - 1;
-        let count = self.counts[tail];
-        if count <= 1 {
-            self.counts[tail] = 0;
-            self.segments[tail] = 0;
-            self.used = tail;
-            self.markers[tail] = 0;
-            return self;
-        }
-        self.counts[tail] = count - 1;
+        self.lower_tail();
         self
     }
 

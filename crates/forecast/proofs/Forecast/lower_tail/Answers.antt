@@ -1,4 +1,4 @@
--- What one less for the tail leaves in the rows of a tidy forecast.
+-- `forecast::Forecast::lower_tail` meets its contract: one less for the tail.
 use Prim.Native.Nat.{ℕ, ◌+◌, ◌-◌, ◌≤◌, ◌<◌}
 use mathlib.Core.Path.{◌≡◌, refl, sym, ap, ◌∙◌}
 use mathlib.Core.List.{List}
@@ -14,6 +14,7 @@ use Rattle.forecast.specs.Cells.{used_cells}
 use Rattle.forecast.specs.Tidy.{Tidy, Became}
 use Rattle.forecast.proofs.Rows.{row-set, row_kept, row-less}
 use Rattle.forecast.proofs.Stepping.{made, became, cells-used, markers-row, segments-row, counts-row, count-is}
+use Rattle.forecast.proofs.Forecast.lower_tail.Goals as goal
 
 module _ (F : Forecast) (t : Tidy F) (h : 0 < F.used) where
   abbrev us : List Cell
@@ -26,7 +27,7 @@ module _ (F : Forecast) (t : Tidy F) (h : 0 < F.used) where
   last = ap (λ (n : ℕ). n - 1) (cells-used F t)
 
   -- which goes
-  pub lowered-gone : get_or F.counts tail 0 ≤ 1 → Became (tailed us) (made (set F.markers tail 0) (set F.segments tail 0) (set F.counts tail 0) tail)
+  lowered-gone : get_or F.counts tail 0 ≤ 1 → Became (tailed us) (made (set F.markers tail 0) (set F.segments tail 0) (set F.counts tail 0) tail)
   lowered-gone k =
       let r = t.room in
       let e : length us ≡ tail + 1 = omega (arith, cells-used F t) in
@@ -39,7 +40,7 @@ module _ (F : Forecast) (t : Tidy F) (h : 0 < F.used) where
       (ap (λ (l : List ℕ). set l tail 0) (counts-row F t) ∙ row-less (λ c. c.count) us tail e (omega arith)))
 
   -- which stays
-  pub lowered-less : 1 < get_or F.counts tail 0 → Became (tailed us) (made F.markers F.segments (set F.counts tail (get_or F.counts tail 0 - 1)) F.used)
+  lowered-less : 1 < get_or F.counts tail 0 → Became (tailed us) (made F.markers F.segments (set F.counts tail (get_or F.counts tail 0 - 1)) F.used)
   lowered-less k =
       let r = t.room in
       let less : Cell = with_count ((get_or us tail zero_cell).count - 1) (get_or us tail zero_cell) in
@@ -51,3 +52,9 @@ module _ (F : Forecast) (t : Tidy F) (h : 0 < F.used) where
       (segments-row F t ∙ row_kept (λ c. c.segment) us tail less refl)
       (ap (λ (n : ℕ). set F.counts tail (n - 1)) (count-is F t tail) ∙ ap (λ (l : List ℕ). set l tail less.count) (counts-row F t)
       ∙ row-set (λ c. c.count) us tail less (omega (arith, cells-used F t))))
+
+pub returns-then-count-gt1 : goal.returns-then-count-gt1
+returns-then-count-gt1 c = lowered-less c.args.self.now c.requires.0 c.requires.1 c.if-count-gt1.true
+
+pub returns : goal.returns
+returns c = lowered-gone c.args.self.now c.requires.0 c.requires.1 c.if-count-gt1.false

@@ -25,10 +25,13 @@ pub fn put_in(
     ensures index { (ss : Segments) (bounds : List ℕ) → Indexed ss list.old bounds table.old → Located key ss place → T (not (member key (keys ss))) → 0 < key → Indexed (set ss (seat key ss) (put key (get_or ss (seat key ss) []))) list.new bounds table.new }
     ensures cards { (f : ℕ → ℕ) → f key ≡ card → cards.old ≡ map f list.old → cards.new ≡ map f list.new }
 {
+    let Place {
+        segment,
+        held,
+        at,
+        ..
+    } = place;
     let n = table.len() / 2 + 1;
-    let segment = place.segment;
-    let held = place.held;
-    let at = place.at;
     let a = 64 * segment;
     let e = a + 64;
     gaps::open_gap(&mut list[a..e], &mut cards[a..e], held, at, key, card);
@@ -50,16 +53,18 @@ pub fn cut_out(
     ensures index { (ss : Segments) → Indexed ss list.old bounds.old table.old → Located key ss place → T (member key (keys ss)) → Indexed (set ss (seat key ss) (cut key (get_or ss (seat key ss) []))) list.new bounds.new table.new }
     ensures cards { (f : ℕ → ℕ) → f 0 ≡ 0 → cards.old ≡ map f list.old → cards.new ≡ map f list.new }
 {
+    let Place {
+        segment,
+        held,
+        at,
+        ..
+    } = place;
     let n = table.len() / 2 + 1;
-    let segment = place.segment;
-    let held = place.held;
-    let at = place.at;
     let a = 64 * segment;
     let e = a + 64;
     gaps::close_gap(&mut list[a..e], &mut cards[a..e], held, at);
     tables::keeping::take_one(table, n, segment);
     if at == 0 {
         rebound(list, bounds, segment, segment + 1);
-        return;
     }
 }

@@ -9,7 +9,8 @@ pub enum Disorder {
 }
 
 // Where a search for a key ends: the segment, the keys it holds, how many of them are below the key, and whether the key is live.
-#[derive(Clone, Copy)]
+// One number for the place of a key that is live and of one that is not: both are put to the same use.
+#[derive(Clone, Copy, PartialEq, Eq, Debug)]
 pub struct Place {
     pub segment: usize,
     pub held: usize,

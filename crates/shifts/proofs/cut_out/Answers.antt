@@ -15,8 +15,8 @@ returns-then-at-eq0 c =
       cards = λ f z h. closed-cards f a.list.now h b (b + 64 - b) a.place.held a.place.at 0 0 z closes.ensures.slots closes.ensures.cards;
     }
 
-pub returns : goal.returns
-returns c =
+pub returns-else-at-eq0 : goal.returns-else-at-eq0
+returns-else-at-eq0 c =
     let a = c.args in
     let b = 64 * a.place.segment in
     let closes = c.close_gap in record {

@@ -14,8 +14,8 @@ fn fits(shape: Shape, level: usize, size: usize, keys: usize) -> bool
     requires { (1 ≤ shape.height) × (shape.height ≤ 6) × (level ≤ shape.height) × (size ≡ 2 ^ level) × (size ≤ 64) × Fetched (shares_at shape) shape }
     ensures { result ≡ within (shares_at shape) level keys }
 {
-    let low = usize::from(shape.lows[level]);
-    let high = usize::from(shape.highs[level]);
+    let low = usize::from(shape.levels.lows[level]);
+    let high = usize::from(shape.levels.highs[level]);
     size * low <= keys && keys <= size * high
 }
 

@@ -1,12 +1,11 @@
 -- A window within its limits, from its level to its halves: they are within theirs, and their plans are its plan.
-use mathlib.Core.Path.{◌≡◌, sym, ap, ap₂, ◌∙◌}
+use mathlib.Core.Path.{◌≡◌, refl, sym, ap, ap₂, ◌∙◌}
 use mathlib.Core.List.{List, [], ◌∷◌, ◌++◌}
 use Prim.Native.Nat.{ℕ, zero, suc, ◌+◌, ◌-◌, ◌/◌, ◌^◌, ◌≤◌}
 use native.Mathlib.Nat.{pow-succ', pow-le-pow_right}
 use native.Mathlib.Omega.{arith}
 use lib.Dec.{lit≤}
 use lib.ListN.{length, take, drop, set}
-use borrow.Rule.Slice.PartMut.{put_mid}
 use Rattle.slots.proofs.Windows.{double, pow_pos}
 use Rattle.rules.specs.Shares.{Shares}
 use Rattle.rules.specs.SharingOut.{left_share, plan}
@@ -15,7 +14,6 @@ use Rattle.demands.proofs.Sharing.SharingOut.{inner}
 use Rattle.planning.specs.Plans.{Splits, Planned}
 use Rattle.stretches.proofs.Weighing.{first_part, other-part, length-stretch}
 use Rattle.planning.proofs.Ranges.{Ranged}
-use Rattle.planning.proofs.Lent.{halves, set-only, set_both}
 
 -- WITHIN LIMITS
 -- What is known of a window of level l above segments, with half the segments in each half.
@@ -69,6 +67,17 @@ unfolding plan
 plan-up S f zero ws i q e = absurd (omega arith)
 plan-up S f (suc l) ws i q e = let d : suc l - 1 ≡ l = omega arith in rw (e, d)
 
+-- the only slot is written
+set-only : (xs : List ℕ) (v : ℕ) → length xs ≡ 1 → set xs 0 v ≡ v ∷ []
+set-only [] v h = absurd (omega arith)
+set-only (x ∷ []) v h = refl
+set-only (x ∷ y ∷ xs) v h = absurd (omega arith)
+
+-- both slots are
+set_both : (xs : List ℕ) (v w : ℕ) → length xs ≡ 2 → set (set xs 0 v) 1 w ≡ v ∷ w ∷ []
+set_both [] v w h = absurd (omega arith)
+set_both (x ∷ xs) v w h = ap (λ (l : List ℕ). v ∷ l) (set-only xs w (omega arith))
+
 module _ (S : Shares) (f l a m : ℕ) (ws : List ℕ) (long : a + m ≤ length ws) where
   -- a segment takes all
   pub plan-one : (counts : List ℕ) → l ≡ 0 → length counts ≡ 2 ^ l → set counts 0 m ≡ plan S l f (take m (drop a ws))
@@ -87,11 +96,9 @@ module _ (S : Shares) (f l a m : ℕ) (ws : List ℕ) (long : a + m ≤ length w
       ∙ sym (plan-up S f l (take m (drop a ws)) i (omega arith) p
       ∙ ap₂ (λ (x y : List ℕ). x ++ y) (plan-zero S f (l - 1) (take i (take m (drop a ws))) z) (plan-zero S 0 (l - 1) (drop i (take m (drop a ws))) z))
 
-  -- the plans of the halves
-  pub plan-two : (counts xs ys : List ℕ) (half i : ℕ) → 1 ≤ l → i ≤ m → i ≡ left_share S (l - 1) f (take m (drop a ws)) → length xs ≡ half
-      → xs ≡ plan S (l - 1) f (take i (drop a ws)) → ys ≡ plan S (l - 1) 0 (take (m - i) (drop (a + i) ws))
-      → put_mid half (length (xs ++ drop half counts) - half) (xs ++ drop half counts) ys ≡ plan S l f (take m (drop a ws))
-  plan-two counts xs ys half i q h e n p r =
-      halves counts xs half n ys
-      ∙ ap₂ (λ u v. u ++ v) (p ∙ ap (plan S (l - 1) f) (sym (first_part ws a m i h))) (r ∙ ap (plan S (l - 1) 0) (sym (other-part ws a m i h)))
-      ∙ sym (plan-up S f l (take m (drop a ws)) i q e)
+-- the plans of the halves
+pub plan-two : (S : Shares) (f l a m : ℕ) (ws xs ys : List ℕ) (i : ℕ) → 1 ≤ l → i ≤ m → i ≡ left_share S (l - 1) f (take m (drop a ws))
+    → xs ≡ plan S (l - 1) f (take i (drop a ws)) → ys ≡ plan S (l - 1) 0 (take (m - i) (drop (a + i) ws)) → xs ++ ys ≡ plan S l f (take m (drop a ws))
+plan-two S f l a m ws xs ys i q h e p r =
+    ap₂ (λ u v. u ++ v) (p ∙ ap (plan S (l - 1) f) (sym (first_part ws a m i h))) (r ∙ ap (plan S (l - 1) 0) (sym (other-part ws a m i h)))
+    ∙ sym (plan-up S f l (take m (drop a ws)) i q e)

@@ -1,5 +1,4 @@
 pub mod Parts
 pub mod Scanning
 pub mod Ranges
-pub mod Lent
 pub mod Levels

@@ -10,19 +10,13 @@ pub fn whole(weights: &[usize], m: usize, front: usize) -> Part
     requires { (length weights.now ≤ 12) × All (λ w. w ≤ 12) weights.now × (front ≤ 12) }
     ensures { result ≡ whole_of weights.now m front }
 {
-    let mut all = front;
-    let mut k = 0;
-    while k < weights.len() {
-        all += weights[k];
-        k += 1;
-    }
     Part {
         place: 0,
         keys: m,
         from: 0,
         to: weights.len(),
         front,
-        all,
+        all: front + weights.iter().sum::<usize>(),
     }
 }
 

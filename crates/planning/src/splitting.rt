@@ -8,7 +8,8 @@ ghost use Rattle.stretches.specs.Tries.{Halves};
 ghost use Rattle.planning.specs.Plans.{Splits, Planned};
 
 use crate::parting;
-use stretches::{Part, Stretch, Tried, crossing, passing, trying};
+use shares::LevelShares;
+use stretches::{Part, Stretch, Tried, crossing, passing};
 
 // Of the numbers from `first` to `last` the one that makes formula 6 least: stretches between marks, upward. A half has `c` slots.
 fn scan(at: &[usize], weights: &[usize], part: Part, c: usize, first: usize, last: usize) -> usize
@@ -18,13 +19,15 @@ fn scan(at: &[usize], weights: &[usize], part: Part, c: usize, first: usize, las
     ensures share { (ws : List ℕ) → PartOf ws at.now weights.now part → result ≡ least (formula6 c part.front (weights_in ws part)) first (last - first) }
 {
     let mut passed = passing::pass(at, weights, part, first);
+    // 1/0 is farther than any distance: no number is found yet.
     let mut found = Tried {
         keys: first,
         num: 1,
         den: 0,
     };
     let mut i = first;
-    let keys = loop {
+    // Not one number after the other: the next stretch begins past the mark at which this one ends.
+    loop {
         let end = passing::reach(at, part, passed.next, last);
         let stretch = Stretch {
             left: passed.left,
@@ -34,12 +37,11 @@ fn scan(at: &[usize], weights: &[usize], part: Part, c: usize, first: usize, las
         };
         found = crossing::nearest(found, stretch, c, part.keys);
         if end == last {
-            break found.keys;
+            return found.keys;
         }
         passed = passing::pass_one(weights, passed);
         i = end + 1;
-    };
-    keys
+    }
 }
 
 // How many keys of a part the left half takes. `half` segments a half.
@@ -62,57 +64,55 @@ pub fn split(
     }
     let least = half * low;
     let most = half * high;
-    let first = trying::larger(least, trying::over(m, most));
-    let last = trying::smaller(most, m - least);
+    let first = least.max(m.saturating_sub(most));
+    let last = most.min(m - least);
     scan(at, weights, part, 64 * half, first, last)
 }
 
-// How many of a part's keys each segment of its window, which is of this level, gets: into `counts`. The rows have a share for each level.
-// The two segments of a window of level 1 get theirs without further calls.
+// How many of a part's keys each segment of its window, which is of this level, gets: into `counts`.
 pub fn plan_window(
     at: &[usize],
     weights: &[usize],
     part: Part,
-    lows: &[u8],
-    highs: &[u8],
+    levels: &LevelShares,
     level: usize,
     counts: &mut [usize],
 )
     requires by_index { (ws : List ℕ) × PartOf ws at.now weights.now part }
-    requires rows { (S : Shares) × Rows S lows.now highs.now × Planned S level (length counts.old) part.keys }
+    requires rows { (S : Shares) × Rows S levels.now.lows levels.now.highs × Planned S level (length counts.old) part.keys }
     ensures range { length counts.new ≡ length counts.old }
-    ensures counts { (S : Shares) (ws : List ℕ) → level ≤ S.height → Rows S lows.now highs.now → PartOf ws at.now weights.now part → counts.new ≡ plan S level part.front (weights_in ws part) }
+    ensures counts { (S : Shares) (ws : List ℕ) → level ≤ S.height → Rows S levels.now.lows levels.now.highs → PartOf ws at.now weights.now part → counts.new ≡ plan S level part.front (weights_in ws part) }
 {
     if level == 0 {
         counts[0] = part.keys;
-    } else {
-        let half = counts.len() / 2;
-        let low = rows::wide(lows[level]);
-        let high = rows::wide(highs[level]);
-        let i = split(at, weights, part, half, low, high);
-        if level == 1 {
-            counts[0] = i;
-            counts[1] = part.keys - i;
-            return;
-        }
-        let p = passing::pass(at, weights, part, i);
-        plan_window(
-            at,
-            weights,
-            parting::left_of(part, i, p),
-            lows,
-            highs,
-            level - 1,
-            &mut counts[..half],
-        );
-        plan_window(
-            at,
-            weights,
-            parting::right_of(part, i, p),
-            lows,
-            highs,
-            level - 1,
-            &mut counts[half..],
-        );
+        return;
     }
+    let half = counts.len() / 2;
+    let low = usize::from(levels.lows[level]);
+    let high = usize::from(levels.highs[level]);
+    let i = split(at, weights, part, half, low, high);
+    // Two segments get their keys without further calls.
+    if level == 1 {
+        counts[0] = i;
+        counts[1] = part.keys - i;
+        return;
+    }
+    let p = passing::pass(at, weights, part, i);
+    let (left, right) = counts.split_at_mut(half);
+    plan_window(
+        at,
+        weights,
+        parting::left_of(part, i, p),
+        levels,
+        level - 1,
+        left,
+    );
+    plan_window(
+        at,
+        weights,
+        parting::right_of(part, i, p),
+        levels,
+        level - 1,
+        right,
+    );
 }

@@ -26,8 +26,8 @@ pub record Fetched (S : Shares) (k : Shape) : Type 0 where
   pub floor : k.floor ≡ sparse_below S
   pub high : k.high ≡ S.high 0
   pub low : k.low ≡ S.low 0
-  pub rows : Rows S k.lows k.highs
+  pub rows : Rows S k.levels.lows k.levels.highs
 
 -- The shape of no list.
 abbrev pub blank_shape : Shape
-blank_shape = record { height = 0; cells = 0; capacity = 0; floor = 0; high = 0; low = 0; lows = replicate 7 0; highs = replicate 7 0; profile = First }
+blank_shape = record { height = 0; cells = 0; capacity = 0; floor = 0; high = 0; low = 0; levels = record { highs = replicate 7 0; lows = replicate 7 0 }; profile = First }

@@ -4,45 +4,70 @@
 ghost use Rattle.std.specs.Prelude.{◌≡◌, ◌≤◌, ◌*◌, ◌^◌, get_or};
 ghost use Rattle.rules.specs.Profiles.{is_profile, profile_of};
 ghost use Rattle.rules.specs.Shares.{shares};
-ghost use Rattle.shares.specs.Rows.{Row, blank_shape, Fetched};
+ghost use Rattle.shares.specs.Rows.{Rows, blank_shape, Fetched};
 
-use rows::wide;
 use rules::Profile;
 
-const FIRST_HIGHS: [[u8; 7]; 6] = [
-    [64, 32, 0, 0, 0, 0, 0],
-    [64, 48, 32, 0, 0, 0, 0],
-    [64, 53, 42, 32, 0, 0, 0],
-    [64, 56, 48, 40, 32, 0, 0],
-    [64, 57, 51, 44, 38, 32, 0],
-    [64, 58, 53, 48, 42, 37, 32],
+// The high and the low share of each level, of one height.
+#[derive(Clone, Copy, PartialEq, Eq, Debug)]
+pub struct LevelShares {
+    pub highs: [u8; 7],
+    pub lows: [u8; 7],
+}
+
+// By height, from 1 upward.
+const FIRST: [LevelShares; 6] = [
+    LevelShares {
+        highs: [64, 32, 0, 0, 0, 0, 0],
+        lows: [7, 13, 0, 0, 0, 0, 0],
+    },
+    LevelShares {
+        highs: [64, 48, 32, 0, 0, 0, 0],
+        lows: [7, 10, 13, 0, 0, 0, 0],
+    },
+    LevelShares {
+        highs: [64, 53, 42, 32, 0, 0, 0],
+        lows: [7, 9, 11, 13, 0, 0, 0],
+    },
+    LevelShares {
+        highs: [64, 56, 48, 40, 32, 0, 0],
+        lows: [7, 8, 10, 12, 13, 0, 0],
+    },
+    LevelShares {
+        highs: [64, 57, 51, 44, 38, 32, 0],
+        lows: [7, 8, 9, 11, 12, 13, 0],
+    },
+    LevelShares {
+        highs: [64, 58, 53, 48, 42, 37, 32],
+        lows: [7, 8, 9, 10, 11, 12, 13],
+    },
 ];
 
-const FIRST_LOWS: [[u8; 7]; 6] = [
-    [7, 13, 0, 0, 0, 0, 0],
-    [7, 10, 13, 0, 0, 0, 0],
-    [7, 9, 11, 13, 0, 0, 0],
-    [7, 8, 10, 12, 13, 0, 0],
-    [7, 8, 9, 11, 12, 13, 0],
-    [7, 8, 9, 10, 11, 12, 13],
-];
-
-const SECOND_HIGHS: [[u8; 7]; 6] = [
-    [58, 44, 0, 0, 0, 0, 0],
-    [58, 51, 44, 0, 0, 0, 0],
-    [58, 54, 49, 44, 0, 0, 0],
-    [58, 55, 51, 48, 44, 0, 0],
-    [58, 56, 53, 50, 47, 44, 0],
-    [58, 56, 54, 51, 49, 47, 44],
-];
-
-const SECOND_LOWS: [[u8; 7]; 6] = [
-    [6, 20, 0, 0, 0, 0, 0],
-    [6, 13, 20, 0, 0, 0, 0],
-    [6, 10, 15, 20, 0, 0, 0],
-    [6, 9, 13, 16, 20, 0, 0],
-    [6, 8, 11, 14, 17, 20, 0],
-    [6, 8, 10, 13, 15, 17, 20],
+const SECOND: [LevelShares; 6] = [
+    LevelShares {
+        highs: [58, 44, 0, 0, 0, 0, 0],
+        lows: [6, 20, 0, 0, 0, 0, 0],
+    },
+    LevelShares {
+        highs: [58, 51, 44, 0, 0, 0, 0],
+        lows: [6, 13, 20, 0, 0, 0, 0],
+    },
+    LevelShares {
+        highs: [58, 54, 49, 44, 0, 0, 0],
+        lows: [6, 10, 15, 20, 0, 0, 0],
+    },
+    LevelShares {
+        highs: [58, 55, 51, 48, 44, 0, 0],
+        lows: [6, 9, 13, 16, 20, 0, 0],
+    },
+    LevelShares {
+        highs: [58, 56, 53, 50, 47, 44, 0],
+        lows: [6, 8, 11, 14, 17, 20, 0],
+    },
+    LevelShares {
+        highs: [58, 56, 54, 51, 49, 47, 44],
+        lows: [6, 8, 10, 13, 15, 17, 20],
+    },
 ];
 
 // 2 to the power of a level.
@@ -50,13 +75,7 @@ pub fn power(l: usize) -> usize
     requires { l ≤ 6 }
     ensures { (result ≡ 2 ^ l) × (result ≤ 64) × (1 ≤ result) }
 {
-    let mut p = 1;
-    let mut i = 0;
-    while i < l {
-        p = 2 * p;
-        i += 1;
-    }
-    p
+    1 << l
 }
 
 // Whether a number names a profile; and the profile that it names.
@@ -79,8 +98,8 @@ pub fn profile_of(n: u64) -> Profile
 }
 
 // All that a list keeps to, fetched once for a call: its number of cells, the most keys that it holds, the number of keys under which it is
-// sparse, a segment's high and low, the rows of shares by level, and the profile that all of them are of.
-#[derive(Clone, Copy)]
+// sparse, a segment's high and low, the shares by level, and the profile that all of them are of.
+#[derive(Clone, Copy, PartialEq, Eq, Debug)]
 pub struct Shape {
     pub height: usize,
     pub cells: usize,
@@ -88,8 +107,7 @@ pub struct Shape {
     pub floor: usize,
     pub high: usize,
     pub low: usize,
-    pub lows: [u8; 7],
-    pub highs: [u8; 7],
+    pub levels: LevelShares,
     pub profile: Profile,
 }
 
@@ -104,30 +122,23 @@ pub fn blank() -> Shape
         floor: 0,
         high: 0,
         low: 0,
-        lows: [0; 7],
-        highs: [0; 7],
+        levels: LevelShares {
+            highs: [0; 7],
+            lows: [0; 7],
+        },
         profile: Profile::First,
     }
 }
 
-// The rows of a height.
-fn highs(profile: Profile, h: usize) -> [u8; 7]
+// The shares of a height.
+fn levels(profile: Profile, h: usize) -> LevelShares
     requires { (1 ≤ h) × (h ≤ 6) }
-    ensures { Row h (shares profile h).high result × (get_or result h 0 ≤ 64) }
+    ensures rows { Rows (shares profile h) result.lows result.highs }
+    ensures small { (get_or result.highs h 0 ≤ 64) × (get_or result.lows h 0 ≤ 20) }
 {
     match profile {
-        Profile::First => FIRST_HIGHS[h - 1],
-        Profile::Second => SECOND_HIGHS[h - 1],
-    }
-}
-
-fn lows(profile: Profile, h: usize) -> [u8; 7]
-    requires { (1 ≤ h) × (h ≤ 6) }
-    ensures { Row h (shares profile h).low result × (get_or result h 0 ≤ 20) }
-{
-    match profile {
-        Profile::First => FIRST_LOWS[h - 1],
-        Profile::Second => SECOND_LOWS[h - 1],
+        Profile::First => FIRST[h - 1],
+        Profile::Second => SECOND[h - 1],
     }
 }
 
@@ -135,18 +146,17 @@ pub fn shape_of(profile: Profile, h: usize) -> Shape
     requires { (1 ≤ h) × (h ≤ 6) }
     ensures { (result.profile ≡ profile) × Fetched (shares profile h) result }
 {
-    let n = power(h);
-    let lows = lows(profile, h);
-    let highs = highs(profile, h);
+    let segments = power(h);
+    let levels = levels(profile, h);
+    let LevelShares { highs, lows } = levels;
     Shape {
         height: h,
         cells: 6 + h,
-        capacity: n * wide(highs[h]),
-        floor: n * wide(lows[h]),
-        high: wide(highs[0]),
-        low: wide(lows[0]),
-        lows,
-        highs,
+        capacity: segments * usize::from(highs[h]),
+        floor: segments * usize::from(lows[h]),
+        high: usize::from(highs[0]),
+        low: usize::from(lows[0]),
+        levels,
         profile,
     }
 }

@@ -1,11 +1,15 @@
 -- The next mark from a place on: where it stands, and how it moves with the place.
-use mathlib.Core.Path.{◌≡◌}
+use mathlib.Core.Path.{◌≡◌, refl, sym}
+use mathlib.Core.Bool.{Bool, true, false, not}
 use mathlib.Core.List.{List, [], ◌∷◌}
-use Prim.Native.Nat.{ℕ, zero, suc, ◌≤◌, ◌<◌}
+use Prim.Native.Nat.{ℕ, zero, suc, ◌+◌, ◌≤◌, ◌<◌}
 use native.Mathlib.Decide.{dec_lt}
 use native.Mathlib.Omega.{arith}
-use lib.Dec.{leb, leb→le}
+use lib.Dec.{T, leb, ltb, leb→le, nltb→le}
 use lib.ListN.{length, get_or}
+use Rattle.std.specs.Prelude.{cond, Some, None, position, unwrap_or, if◌then◌else◌}
+use Rattle.std.specs.List.{position_or_len}
+use Rattle.std.proofs.lemmas.List.Recursion.{is_position_or_len}
 use borrow.Author.Tests.{le-leb, lt-leb}
 use Rattle.lists.specs.Lists.{All}
 use Rattle.lists.specs.Search.{place_by}
@@ -13,6 +17,21 @@ use Rattle.lists.proofs.Members.{at_mem}
 use Rattle.lists.proofs.Search.{place-le, place-passes}
 use Rattle.slots.specs.Keys.{Rising}
 use Rattle.slots.proofs.Halving.{rising-at}
+
+-- the first that passes, by the library's search: the length where none does
+place-is : {A : Type 0} (p : A → Bool) (xs : List A) → position_or_len p xs ≡ place_by p xs
+place-is p xs = sym (is_position_or_len (place_by p) p refl (λ x xs. step (p x) (place_by p xs)) xs)
+  where
+    step : (b : Bool) (n : ℕ) → (if b then 0 else suc n) ≡ cond b 0 (1 + n)
+    step true n = refl
+    step false n = omega arith
+
+pub place-or : {A : Type 0} (p : A → Bool) (xs : List A) {n : ℕ} → n ≡ length xs → unwrap_or (position p xs) n ≡ place_by p xs
+place-or p xs {n} e = go (ltb (position_or_len p xs) (length xs)) (nltb→le _ _)
+  where
+    go : (b : Bool) → (T (not b) → length xs ≤ position_or_len p xs) → unwrap_or (cond b (Some (position_or_len p xs)) None) n ≡ place_by p xs
+    go true h = place-is p xs
+    go false h = omega (arith, h tt, place-is p xs, place-le p xs)
 
 -- the first mark that stands at place x or past it
 abbrev pub next : List ℕ → ℕ → ℕ

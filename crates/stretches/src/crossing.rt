@@ -9,7 +9,7 @@ fn past_crossing(left: usize, right: usize, c: usize, m: usize) -> usize
     requires { (left ≤ 300) × (right ≤ 300) × (0 < left + right) × (c ≤ 2048) × (m ≤ 4096) }
     ensures { (result ≡ past_crossing left right c m) × (1 ≤ result) }
 {
-    trying::over(right * c + left * m, left * c) / (left + right) + 1
+    (right * c + left * m).saturating_sub(left * c) / (left + right) + 1
 }
 
 // Of a stretch only the two numbers round the crossing are looked at, the lower one first.
@@ -19,8 +19,8 @@ pub fn nearest(found: Tried, s: Stretch, c: usize, m: usize) -> Tried
     ensures nearest { result ≡ nearest_of found s c m }
 {
     let past = past_crossing(s.left, s.right, c, m);
-    let lower = trying::larger(s.first, trying::smaller(past - 1, s.last));
-    let upper = trying::larger(s.first, trying::smaller(past, s.last));
+    let lower = (past - 1).clamp(s.first, s.last);
+    let upper = past.clamp(s.first, s.last);
     let near = trying::nearer(found, trying::try_at(s.left, s.right, c, m, lower));
     if lower == upper {
         return near;

@@ -7,7 +7,7 @@ pub mod trying;
 
 // A part of a packed window: the place of its first key and how many it has, its marks from `from` up to `to`, the front's weight if it
 // begins with the front, and what it weighs, the front included.
-#[derive(Clone, Copy)]
+#[derive(Clone, Copy, PartialEq, Eq, Debug)]
 pub struct Part {
     pub place: usize,
     pub keys: usize,
@@ -18,14 +18,14 @@ pub struct Part {
 }
 
 // The next mark, and what the left half weighs up to it.
-#[derive(Clone, Copy)]
+#[derive(Clone, Copy, PartialEq, Eq, Debug)]
 pub struct Passed {
     pub next: usize,
     pub left: usize,
 }
 
 // Numbers of keys for the left half, between two marks: the weights on both sides stay.
-#[derive(Clone, Copy)]
+#[derive(Clone, Copy, PartialEq, Eq, Debug)]
 pub struct Stretch {
     pub left: usize,
     pub right: usize,
@@ -34,7 +34,7 @@ pub struct Stretch {
 }
 
 // A number of keys for the left half, and its distance by formula 6 as a fraction.
-#[derive(Clone, Copy)]
+#[derive(Clone, Copy, PartialEq, Eq, Debug)]
 pub struct Tried {
     pub keys: usize,
     pub num: usize,

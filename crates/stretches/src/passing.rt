@@ -3,7 +3,7 @@ ghost use Rattle.std.specs.Prelude.{◌≡◌, ℕ, ◌+◌, ◌≤◌, ◌<◌,
 ghost use Rattle.lists.specs.Search.{place_by};
 ghost use Rattle.stretches.specs.Parts.{PartOf, PassedTo, reach_of};
 
-use crate::{Part, Passed, trying};
+use crate::{Part, Passed};
 
 // The first of the first `n` marks that stands at a place or past it, or `n`.
 pub fn mark_from(at: &[usize], n: usize, place: usize) -> usize
@@ -11,14 +11,7 @@ pub fn mark_from(at: &[usize], n: usize, place: usize) -> usize
     ensures range { result ≤ n }
     ensures place { result ≡ place_by (leb place) (take n at.now) }
 {
-    let mut k = 0;
-    while k < n {
-        if place <= at[k] {
-            return k;
-        }
-        k += 1;
-    }
-    k
+    at[..n].iter().position(|m| place <= *m).unwrap_or(n)
 }
 
 // The next mark passed: its weight goes left.
@@ -39,20 +32,18 @@ pub fn pass(at: &[usize], weights: &[usize], part: Part, i: usize) -> Passed
     requires i_le_keys { i ≤ part.keys }
     ensures { (ws : List ℕ) → PartOf ws at.now weights.now part → PassedTo ws at.now part i result }
 {
-    let to = part.to;
     let place = part.place + i;
-    let mut p = Passed {
-        next: part.from,
-        left: part.front,
-    };
-    while p.next < to {
-        let next = p.next;
+    let mut left = part.front;
+    for next in part.from..part.to {
         if place <= at[next] {
-            return p;
+            return Passed { next, left };
         }
-        p = pass_one(weights, p);
+        left += weights[next];
     }
-    p
+    Passed {
+        next: part.to,
+        left,
+    }
 }
 
 // How far the numbers of keys go on before the next mark, at most to `last`: a mark weighs on the left once its key is taken.
@@ -61,7 +52,8 @@ pub fn reach(at: &[usize], part: Part, next: usize, last: usize) -> usize
     ensures { result ≡ reach_of at.now part next last }
 {
     if next < part.to {
-        return trying::smaller(last, at[next] - part.place);
+        last.min(at[next] - part.place)
+    } else {
+        last
     }
-    last
 }

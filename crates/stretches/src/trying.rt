@@ -1,33 +1,8 @@
 // One number of keys for the left half tried, and the nearer of two.
-ghost use Rattle.std.specs.Prelude.{◌≡◌, ◌+◌, ◌-◌, ◌≤◌, max, min};
+ghost use Rattle.std.specs.Prelude.{◌≡◌, ◌+◌, ◌-◌, ◌≤◌};
 ghost use Rattle.stretches.specs.Tries.{Halves, tried_with, nearer_of};
 
 use crate::Tried;
-
-// Of two numbers the larger, the smaller, their difference or 0, and their distance.
-pub fn larger(a: usize, b: usize) -> usize
-    ensures { result ≡ max a b }
-{
-    if a < b { b } else { a }
-}
-
-pub fn smaller(a: usize, b: usize) -> usize
-    ensures { result ≡ min a b }
-{
-    if a < b { a } else { b }
-}
-
-pub fn over(a: usize, b: usize) -> usize
-    ensures { result ≡ a - b }
-{
-    if a < b { 0 } else { a - b }
-}
-
-fn gap(a: usize, b: usize) -> usize
-    ensures { result ≡ (a - b) + (b - a) }
-{
-    if a < b { b - a } else { a - b }
-}
 
 // Of m keys, i go into the left of two halves of c slots each, with these weights left and right.
 pub fn try_at(left: usize, right: usize, c: usize, m: usize, i: usize) -> Tried
@@ -38,7 +13,7 @@ pub fn try_at(left: usize, right: usize, c: usize, m: usize, i: usize) -> Tried
     let y = c + i - m;
     Tried {
         keys: i,
-        num: gap(left * y, right * x),
+        num: (left * y).abs_diff(right * x),
         den: x * y,
     }
 }

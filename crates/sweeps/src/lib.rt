@@ -22,9 +22,10 @@ fn front_weight(forecast: Forecast, first: usize) -> usize
     ensures { result ≡ (if eqb first 0 then weight (used_cells forecast) 0 else 0) }
 {
     if first == 0 {
-        return forecast.weight_of(0);
+        forecast.weight_of(0)
+    } else {
+        0
     }
-    0
 }
 
 // How many keys each segment of the window gets that the request sweeps, into `plan`: the keys that weigh are marked where they will stand.
@@ -56,29 +57,14 @@ pub fn plan_sweep(
     let r = marks::mark(list, table, forecast, w, &mut at, &mut weights);
     let front = front_weight(forecast, first);
     let part = planning::parting::whole(&weights[..r], aim.moves, front);
-    let lows = shape.lows;
-    let highs = shape.highs;
     planning::splitting::plan_window(
         &at[..r],
         &weights[..r],
         part,
-        &lows,
-        &highs,
+        &shape.levels,
         level,
         &mut plan[..n],
     );
-}
-
-// The counts of a plan in their places, from `first` on.
-fn keep(table: &mut [usize], first: usize, plan: &[usize])
-    requires { first + length plan.now ≤ length table.old }
-    ensures { table.new ≡ splice first (length plan.now) plan.now table.old }
-{
-    let mut i = 0;
-    while i < plan.len() {
-        table[first + i] = plan[i];
-        i += 1;
-    }
 }
 
 // The counts of a plan in the table, and the sums of the windows over them.
@@ -87,8 +73,9 @@ fn recount(table: &mut [usize], first: usize, plan: &[usize])
     ensures { (h : ℕ) (ss window : Segments) → length ss ≡ 2 ^ h → table.old ≡ table_of h ss → map length window ≡ plan.now → table.new ≡ table_of h (splice first (length plan.now) window ss) }
 {
     let n = table.len() / 2 + 1;
-    keep(table, first, plan);
-    tables::summing::sum_over(table, n, first, first + plan.len() - 1);
+    let end = first + plan.len();
+    table[first..end].copy_from_slice(plan);
+    tables::summing::sum_over(table, n, first, end - 1);
 }
 
 // The window swept by its plan, each key with its card, with the bounds of its segments and the table. `card` is that of a key put in.

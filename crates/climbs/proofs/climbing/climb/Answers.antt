@@ -24,21 +24,24 @@ module _ (c : In-loop-level) where
   abbrev table : List ℕ
   table = c.args.table.now
 
+  at_most : level ≤ h
+  at_most = omega arith
+
   small : c.loop-level.size * 2 ≤ 64
   small = rw c.loop-level.invariant.size (pow-le-pow_right {n = 2} (omega arith) {i = level} {j = 6} (omega arith))
 
   inside : entry_of (2 ^ h) c.args.seg level < length table
-  inside = way_in c.requires.4 c.requires.2 level c.loop-level-test.true
+  inside = way_in c.requires.4 c.requires.2 level at_most
 
   few : get_or table (length table / 2 + 1 + c.loop-level.e / 2) 0 ≤ 4096
-  few = rw c.loop-level.invariant.way (way-few c.requires.4 c.requires.2 level c.loop-level-test.true)
+  few = rw c.loop-level.invariant.way (way-few c.requires.4 c.requires.2 level at_most)
 
   least : c.args.gone ≤ get_or table (length table / 2 + 1 + c.loop-level.e / 2) 0
-  least = rw c.loop-level.invariant.way (way-least c.requires.4 c.requires.2 level c.loop-level-test.true)
+  least = rw c.loop-level.invariant.way (way-least c.requires.4 c.requires.2 level at_most)
 
   many : (ss : Segments) (new : List ℕ) → length ss ≡ 2 ^ h → table ≡ table_of h ss → length new + c.args.gone ≡ length (get_or ss c.args.seg []) + c.args.grown
       → get_or table (length table / 2 + 1 + c.loop-level.e / 2) 0 + c.args.grown - c.args.gone ≡ count level c.args.seg (set ss c.args.seg new)
-  many ss new e t g = rw c.loop-level.invariant.way (way-count c.requires.4 c.requires.2 level c.loop-level-test.true ss new c.args.grown e t g)
+  many ss new e t g = rw c.loop-level.invariant.way (way-count c.requires.4 c.requires.2 level at_most ss new c.args.grown e t g)
 
 pub loop-level-init : goal.loop-level-init
 loop-level-init c =
@@ -69,15 +72,15 @@ overflow_sub-keys c = omega (arith, least (goal.at.overflow_sub-keys c).In-loop-
 pub fits-requires : goal.fits-requires
 fits-requires c =
     let p = c.requires in
-    (p.0, p.1, c.loop-level-test.true, c.loop-level.invariant.size, small (goal.at.fits-requires c).In-loop-level, p.3)
+    (p.0, p.1, at_most (goal.at.fits-requires c).In-loop-level, c.loop-level.invariant.size, small (goal.at.fits-requires c).In-loop-level, p.3)
 
 pub returns-then-fits-clause-range : goal.returns-then-fits-clause-range
 returns-then-fits-clause-range c =
-    (c.loop-level.auto.level, c.loop-level-test.true, omega (arith, few (goal.at.returns-then-fits-clause-range c).In-loop-level))
+    (c.loop-level.auto.level, omega arith, omega (arith, few (goal.at.returns-then-fits-clause-range c).In-loop-level))
 
 pub returns-then-fits-clause-window : goal.returns-then-fits-clause-window
 returns-then-fits-clause-window c ss new e t g =
-    climbed-here (shares_at c.args.shape) c.args.seg (set ss c.args.seg new) c.loop-level.level _ c.loop-level.auto.level c.loop-level-test.true
+    climbed-here (shares_at c.args.shape) c.args.seg (set ss c.args.seg new) c.loop-level.level _ c.loop-level.auto.level (omega arith)
     (many (goal.at.returns-then-fits-clause-window c).In-loop-level ss new e t g) (sym c.if-fits.true ∙ c.fits.ensures) (c.loop-level.invariant.tried ss new e t g)
 
 pub loop-level-preserved : goal.loop-level-preserved

@@ -1,30 +1,29 @@
--- `whole` meets its contract. The loop's invariant: all is the front's weight and those of the first `k` marks.
-use mathlib.Core.Path.{◌≡◌, ap, ◌∙◌}
-use mathlib.Core.List.{List}
-use Prim.Native.Nat.{ℕ, ◌+◌}
-use native.Mathlib.Numerals.{add-one}
-use native.Mathlib.Omega.{arith}
-use lib.Seq.{take_all}
-use Rattle.lists.specs.Lists.{total}
-use Rattle.lists.proofs.Members.{at_mem}
-use Rattle.lists.proofs.Joined.{total-suc}
+-- `whole` has all marks, whose weights are summed.
+use Rattle.std.proofs.Common.{◌≡◌, ℕ, ◌+◌, ◌*◌, ◌^◌, ◌<◌, ◌≤◌, List, length, sum, refl, sym, ap, ◌∙◌, arith, rules}
+use Rattle.std.proofs.lemmas.List.Recursion.{is_sum_by}
+use Rattle.std.proofs.lemmas.Grind.{common_steps}
+use lib.Seq.{take-length}
+use Rattle.lists.specs.Lists.{All, total}
 use Rattle.stretches.proofs.Weighing.{total-small}
 use Rattle.planning.proofs.parting.whole.Goals as goal
 
-pub overflow_add-all : goal.overflow_add-all
-overflow_add-all c =
-    let L = c.loop-k in
-    omega (arith, total-small L.k c.args.weights.now c.requires.1, c.requires.1 _ (at_mem c.args.weights.now L.k 0 (omega arith)))
+total-is : (xs : List ℕ) → total xs ≡ sum xs
+total-is xs = is_sum_by total (λ x. x) refl (λ _ _. refl) xs
 
-pub loop-k-preserved : goal.loop-k-preserved
-loop-k-preserved c =
-    let L = c.loop-k in
-    let W = c.args.weights.now in
-    (omega arith, rw (add-one L.k) (omega (arith, total-suc W L.k (omega arith))))
+few : (xs : List ℕ) → length xs ≤ 12 → All (λ w. w ≤ 12) xs → sum xs < 2 ^ 64
+few xs h small = omega (arith, total-is xs, ap total (take-length xs), total-small (length xs) xs small)
+
+pub sum-requires-clause-fits : goal.sum-requires-clause-fits
+sum-requires-clause-fits c = let h = few c.args.weights.now c.requires.0 c.requires.1 in search rules
+
+pub overflow_add-result : goal.overflow_add-result
+overflow_add-result c =
+    let h = few c.args.weights.now c.requires.0 c.requires.1 in
+    let e : c.sum.result ≡ sum c.args.weights.now = search rules in
+    let s = total-small (length c.args.weights.now) c.args.weights.now c.requires.1 in
+    omega (arith, total-is c.args.weights.now, ap total (take-length c.args.weights.now))
 
 pub returns : goal.returns
 returns c =
-    let L = c.loop-k in
-    let W = c.args.weights.now in
-    let all : L.all ≡ c.args.front + total W = L.invariant.1 ∙ ap (λ (l : List ℕ). c.args.front + total l) (take_all L.k W c.loop-k-test.false) in
-    rw all
+    let e : c.sum.result ≡ sum c.args.weights.now = search rules in
+    rw (e, total-is c.args.weights.now)

@@ -5,7 +5,7 @@ use mathlib.Core.List.{List}
 use Prim.Native.Nat.{ℕ, suc, ◌-◌, ◌/◌, ◌≤◌}
 use native.Mathlib.Nat.{pos_of_ne-zero}
 use native.Mathlib.Omega.{arith}
-use lib.ListN.{length, take, length-take}
+use lib.ListN.{length}
 use Rattle.rules.specs.Shares.{Shares}
 use Rattle.rules.specs.SharingOut.{left_share, plan}
 use Rattle.shares.specs.Rows.{Rows}
@@ -17,16 +17,15 @@ use Rattle.planning.specs.Parts.{left_of, right_of}
 use Rattle.planning.proofs.Parts.{left-part, right-part}
 use Rattle.planning.proofs.Ranges.{Ranged}
 use Rattle.planning.proofs.Levels.{Down, down, plan-one, plan-pair, plan-two}
-use Rattle.planning.proofs.Lent.{second-length}
 use Rattle.planning.proofs.splitting.+plan_window.Goals as goal
-use Rattle.planning.proofs.splitting.+plan_window.Goals.{After-wide-high, After-split-i, After-pass-p}
+use Rattle.planning.proofs.splitting.+plan_window.Goals.{After-from-high, After-split-i, After-pass-p}
 
 -- two numbers in place of equal ones
 both : (P : ℕ → ℕ → Type 0) {a b x y : ℕ} → a ≡ x → b ≡ y → P a b → P x y
 both P {b = b} {x = x} e f p = subst (P x) f (subst (λ (z : ℕ). P z b) e p)
 
 module _ (t : ℕ) where
-  module _ (c : After-wide-high t) where
+  module _ (c : After-from-high t) where
     -- the shares whose rows are lent, and the window within its limits
     abbrev S : Shares
     S = c.requires.rows.0
@@ -34,10 +33,10 @@ module _ (t : ℕ) where
     given : Planned S c.args.level (length c.args.counts.now) c.args.part.keys
     given = c.requires.rows.2
 
-    asked : Splits (length c.args.counts.now / 2) c.wide-low.result c.wide-high.result c.args.part.keys
+    asked : Splits (length c.args.counts.now / 2) c.from-low.result c.from-high.result c.args.part.keys
     asked =
         let r = c.requires.rows.1 in
-        both (λ x y. Splits (length c.args.counts.now / 2) x y c.args.part.keys) (sym (c.wide-low.ensures ∙ r.low.is c.args.level given.level)) (sym (c.wide-high.ensures ∙ r.high.is c.args.level given.level))
+        both (λ x y. Splits (length c.args.counts.now / 2) x y c.args.part.keys) (sym (c.from-low.ensures ∙ r.low.is c.args.level given.level)) (sym (c.from-high.ensures ∙ r.high.is c.args.level given.level))
         (down S c.args.level (length c.args.counts.now) c.args.part.keys given (pos_of_ne-zero c.if-level-eq0.false)).splits
 
   -- what the split says of the halves
@@ -55,25 +54,21 @@ module _ (t : ℕ) where
     halved = down c.requires.rows.0 c.args.level (length c.args.counts.now) c.args.part.keys c.requires.rows.2 above
 
     -- the two shares read, by the rows of any shares
-    low-is : (R : Shares) → c.args.level ≤ R.height → Rows R c.args.lows.now c.args.highs.now → c.wide-low.result ≡ R.low c.args.level
-    low-is R h r = c.wide-low.ensures ∙ r.low.is c.args.level h
+    low-is : (R : Shares) → c.args.level ≤ R.height → Rows R c.args.levels.now.lows c.args.levels.now.highs → c.from-low.result ≡ R.low c.args.level
+    low-is R h r = c.from-low.ensures ∙ r.low.is c.args.level h
 
-    high_is : (R : Shares) → c.args.level ≤ R.height → Rows R c.args.lows.now c.args.highs.now → c.wide-high.result ≡ R.high c.args.level
-    high_is R h r = c.wide-high.ensures ∙ r.high.is c.args.level h
+    high_is : (R : Shares) → c.args.level ≤ R.height → Rows R c.args.levels.now.lows c.args.levels.now.highs → c.from-high.result ≡ R.high c.args.level
+    high_is R h r = c.from-high.ensures ∙ r.high.is c.args.level h
 
     may : Ranged half (c.requires.rows.0.low c.args.level) (c.requires.rows.0.high c.args.level) c.args.part.keys c.split-i.result
     may =
         let r = c.requires.rows in
         both (λ x y. Ranged half x y c.args.part.keys c.split-i.result) (low-is r.0 r.2.level r.1) (high_is r.0 r.2.level r.1) c.split-i.ensures.range
 
-    share : (R : Shares) (ws : List ℕ) → c.args.level ≤ R.height → Rows R c.args.lows.now c.args.highs.now → Weighed ws c.args.part → c.split-i.result ≡ left_share R (c.args.level - 1) c.args.part.front (weights_in ws c.args.part)
+    share : (R : Shares) (ws : List ℕ) → c.args.level ≤ R.height → Rows R c.args.levels.now.lows c.args.levels.now.highs → Weighed ws c.args.part → c.split-i.result ≡ left_share R (c.args.level - 1) c.args.part.front (weights_in ws c.args.part)
     share R ws h r d =
         let e : c.args.level ≡ suc (c.args.level - 1) = omega (arith, above) in
         c.split-i.ensures.share R (c.args.level - 1) ws halved.power (low-is R h r ∙ ap R.low e) (high_is R h r ∙ ap R.high e) d
-
-    -- the first half is as long
-    first-long : length (take half c.args.counts.now) ≡ half
-    first-long = simp length-take (omega (arith, halved.whole))
 
   -- and the marks passed
   module _ (c : After-pass-p t) where
@@ -84,7 +79,7 @@ module _ (t : ℕ) where
     right ws d = right-part ws c.args.at.now c.args.weights.now c.args.part d c.split-i.result c.split-i.ensures.range.0 c.pass-p.result (c.pass-p.ensures ws d)
 
 pub split-i-requires-clause-splits : goal.split-i-requires-clause-splits
-split-i-requires-clause-splits t c = asked t (goal.at.split-i-requires-clause-splits t c).After-wide-high
+split-i-requires-clause-splits t c = asked t (goal.at.split-i-requires-clause-splits t c).After-from-high
 
 pub returns-then-level-eq1-clause-counts : goal.returns-then-level-eq1-clause-counts
 returns-then-level-eq1-clause-counts t c =
@@ -99,7 +94,7 @@ plan_window-requires t c =
     let w = c.requires.by_index in
     let r = c.requires.rows in
     let e = c.left_of.ensures in
-    (omega (arith, c.decreases, above t p), ((w.0, rw e (left t b w.0 w.1)), (r.0, r.1, rw e ((halved t p).left _ _ (first-long t p) (may t p)))))
+    (omega (arith, c.decreases, above t p), ((w.0, rw e (left t b w.0 w.1)), (r.0, r.1, rw e ((halved t p).left _ _ c.split_at_mut-left.ensures.front_len (may t p)))))
 
 pub right_of-requires : goal.right_of-requires
 right_of-requires t c =
@@ -107,14 +102,14 @@ right_of-requires t c =
     let i = c.split-i.ensures.range.0 in
     (omega (arith, w.1.inside, w.1.small), i, left-small w.0 c.args.at.now c.args.weights.now c.args.part w.1 c.split-i.result i c.pass-p.result (c.pass-p.ensures w.0 w.1))
 
-pub plan_window-requires-else-level-eq0 : goal.plan_window-requires-else-level-eq0
-plan_window-requires-else-level-eq0 t c =
-    let b = (goal.at.plan_window-requires-else-level-eq0 t c).After-pass-p in
-    let p = (goal.at.plan_window-requires-else-level-eq0 t c).After-split-i in
+pub plan_window-requires-2 : goal.plan_window-requires-2
+plan_window-requires-2 t c =
+    let b = (goal.at.plan_window-requires-2 t c).After-pass-p in
+    let p = (goal.at.plan_window-requires-2 t c).After-split-i in
     let w = c.requires.by_index in
     let r = c.requires.rows in
     let e = c.right_of.ensures in
-    let n = second-length c.args.counts.now c.plan_window.new.counts (half t p) (c.plan_window.ensures.range ∙ first-long t p) (halved t p).whole in
+    let n : length c.split_at_mut-left.result.1.now ≡ half t p = omega (arith, c.split_at_mut-left.ensures.back_len, (halved t p).whole) in
     (omega (arith, c.decreases, above t p), ((w.0, rw e (right t b w.0 w.1)), (r.0, r.1, rw e ((halved t p).right _ _ n (may t p)))))
 
 pub returns-then-level-eq0-clause-counts : goal.returns-then-level-eq0-clause-counts
@@ -122,16 +117,15 @@ returns-then-level-eq0-clause-counts t c =
     let a = c.args.part in
     λ R ws h r d. plan-one R a.front c.args.level a.place a.keys ws d.inside c.args.counts.now c.if-level-eq0.true c.requires.rows.2.segments
 
-pub returns-else-level-eq1-clause-counts : goal.returns-else-level-eq1-clause-counts
-returns-else-level-eq1-clause-counts t c =
-    let b = (goal.at.returns-else-level-eq1-clause-counts t c).After-pass-p in
-    let p = (goal.at.returns-else-level-eq1-clause-counts t c).After-split-i in
+pub returns-clause-counts : goal.returns-clause-counts
+returns-clause-counts t c R ws h r d =
+    let b = (goal.at.returns-clause-counts t c).After-pass-p in
+    let p = (goal.at.returns-clause-counts t c).After-split-i in
     let a = c.args.part in
     let l = c.args.level in
     let u = c.left_of.ensures in
     let v = c.right_of.ensures in
-    λ R ws h r d.
     let k : l - 1 ≤ R.height = omega arith in
-    plan-two R a.front l a.place a.keys ws d.inside c.args.counts.now c.plan_window.new.counts c.plan_window-else-level-eq0.new.counts (half t p) c.split-i.result (above t p) (may t p).0 (share t p R ws h r d) (c.plan_window.ensures.range ∙ first-long t p)
+    plan-two R a.front l a.place a.keys ws c.plan_window.new.counts c.plan_window-2.new.counts c.split-i.result (above t p) (may t p).0 (share t p R ws h r d)
     (c.plan_window.ensures.counts R ws k r (subst (Weighed t p ws) (sym u) (left t b ws d)) ∙ ap (λ (q : Part). plan R (l - 1) q.front (weights_in ws q)) u)
-    (c.plan_window-else-level-eq0.ensures.counts R ws k r (subst (Weighed t p ws) (sym v) (right t b ws d)) ∙ ap (λ (q : Part). plan R (l - 1) q.front (weights_in ws q)) v)
+    (c.plan_window-2.ensures.counts R ws k r (subst (Weighed t p ws) (sym v) (right t b ws d)) ∙ ap (λ (q : Part). plan R (l - 1) q.front (weights_in ws q)) v)

@@ -1,4 +1,4 @@
--- `planning::splitting::scan` meets its contract. The loop's invariant: the marks up to i are passed, and the best below i is found.
+-- `scan` finds the number that makes formula 6 least.
 use mathlib.Core.Path.{◌≡◌, ap, ◌∙◌}
 use mathlib.Core.List.{List}
 use Prim.Native.Nat.{ℕ, ◌+◌, ◌-◌}
@@ -73,12 +73,12 @@ loop-part-preserved c = (
   },
 )
 
-pub returns : goal.returns
-returns c =
+pub returns-then-end-last : goal.returns-then-end-last
+returns-then-end-last c =
     let a = c.args in
     let w = c.requires.by_index in
     let is : (ws : List ℕ) → PartOf ws a.at.now a.weights.now a.part → c.nearest-found.result.keys ≡ least (formula6 a.c a.part.front (weights_in ws a.part)) a.first (a.last - a.first) =
-    λ ws d. scan-ends a.c a.first a.last ws a.at.now a.weights.now a.part c.requires.halves.0 d c.nearest-found.result (c.nearest-found.ensures.nearest ∙ (known (goal.at.returns c).After-reach-end ws d).best ∙ ap (λ (e : ℕ). best_of (formula6 a.c a.part.front (weights_in ws a.part)) a.first (e + 1 - a.first)) c.if-end-last.true) in
+    λ ws d. scan-ends a.c a.first a.last ws a.at.now a.weights.now a.part c.requires.halves.0 d c.nearest-found.result (c.nearest-found.ensures.nearest ∙ (known (goal.at.returns-then-end-last c).After-reach-end ws d).best ∙ ap (λ (e : ℕ). best_of (formula6 a.c a.part.front (weights_in ws a.part)) a.first (e + 1 - a.first)) c.if-end-last.true) in
     let l = least-from (formula6 a.c a.part.front (weights_in w.0 a.part)) a.first (a.last - a.first) in
     record {
       range = (omega (arith, is w.0 w.1, l.0), omega (arith, is w.0 w.1, l.1, c.requires.halves.0.some));

@@ -1,6 +1,5 @@
--- `planning::splitting::scan` meets its contract. The loop's invariant: the marks up to i are passed, and the best below i is found.
-use mathlib.Core.List.{List}
-use Prim.Native.Nat.{ℕ, ◌-◌, ◌≤◌}
+-- `scan` goes over the stretches. The loop's invariant: the marks up to i are passed, and the best below i is found.
+use Rattle.std.proofs.Common.{ℕ, ◌-◌, ◌≤◌, List}
 use Rattle.stretches.specs.Parts.{PartOf}
 use Rattle.stretches.specs.Tries.{Modest}
 use Rattle.planning.proofs.Scanning.{Scanned}

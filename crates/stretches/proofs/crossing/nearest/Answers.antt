@@ -14,15 +14,11 @@ module _ (c : After-nearer-near) where
   past_is : c.past_crossing-past.result ≡ past
   past_is = c.past_crossing-past.ensures.0
 
-  lower-is : c.larger-lower.result ≡ max c.args.s.first (min (past - 1) c.args.s.last)
-  lower-is =
-      c.larger-lower.ensures
-      ∙ ap (max c.args.s.first) (c.smaller.ensures ∙ ap (λ (p : ℕ). min (p - 1) c.args.s.last) past_is)
+  lower-is : c.clamp-lower.result ≡ max c.args.s.first (min (past - 1) c.args.s.last)
+  lower-is = c.clamp-lower.ensures ∙ ap (λ (p : ℕ). max c.args.s.first (min (p - 1) c.args.s.last)) past_is
 
-  upper_is : c.larger-upper.result ≡ max c.args.s.first (min past c.args.s.last)
-  upper_is =
-      c.larger-upper.ensures
-      ∙ ap (max c.args.s.first) (c.smaller-2.ensures ∙ ap (λ (p : ℕ). min p c.args.s.last) past_is)
+  upper_is : c.clamp-upper.result ≡ max c.args.s.first (min past c.args.s.last)
+  upper_is = c.clamp-upper.ensures ∙ ap (λ (p : ℕ). max c.args.s.first (min p c.args.s.last)) past_is
 
   near-modest : Modest c.nearer-near.result
   near-modest =

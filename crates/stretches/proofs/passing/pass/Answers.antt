@@ -1,9 +1,5 @@
--- `pass` passes the marks on the first keys of a part. The loop's invariant: no mark is passed that stands past them, and those passed are counted.
-use Prim.Native.Nat.{ℕ, ◌+◌, ◌≤◌, ◌<◌}
-use mathlib.Core.Path.{◌≡◌, refl}
-use mathlib.Core.List.{List}
-use native.Mathlib.Omega.{arith}
-use lib.ListN.{length, get_or}
+-- `pass` passes the marks on the first keys of a part.
+use Rattle.std.proofs.Common.{◌≡◌, ℕ, ◌+◌, ◌≤◌, ◌<◌, List, length, get_or, refl, subst, arith}
 use Rattle.lists.proofs.Members.{at_mem}
 use Rattle.stretches.specs.declared.Part.{Part}
 use Rattle.stretches.specs.declared.Passed.{Passed}
@@ -26,41 +22,37 @@ module _ (s : Start) where
   abbrev i : ℕ
   i = s.args.i
 
-  abbrev ws : List ℕ
-  ws = s.requires.by_index.0
-
   -- the part is one of some window, for the bounds
-  is : PartOf ws at weights part
+  is : PartOf s.requires.by_index.0 at weights part
   is = s.requires.by_index.1
 
   -- its marks are among the marks
-  inside : (k : ℕ) → k < part.to → k < length at
-  inside k h = omega (arith, is.to, next-in at (part.place + part.keys))
+  inside : (k : ℕ) → k < part.to → (k < length at) × (k < length weights)
+  inside k h = omega (arith, is.to, is.marked.same, next-in at (part.place + part.keys))
 
-  module _ (r : Passed) (inv : (r.next ≤ next at (part.place + i)) × Counted weights (start part) r) where
+  module _ (k left : ℕ) (inv : (k ≤ next at (part.place + i)) × Counted weights (start part) (record { next = k; left = left })) where
     -- the next mark stands past the keys, or is not the part's
-    hit : part.place + i ≤ get_or at r.next 0 → (ws : List ℕ) → PartOf ws at weights part → PassedTo ws at part i r
-    hit h ws d = passed_is ws at weights part d i s.requires.i_le_keys r (omega (arith, next-hit at (part.place + i) r.next h)) inv.1
+    hit : part.place + i ≤ get_or at k 0 → (ws : List ℕ) → PartOf ws at weights part → PassedTo ws at part i (record { next = k; left = left })
+    hit h ws d = passed_is ws at weights part d i s.requires.i_le_keys (record { next = k; left = left }) (omega (arith, next-hit at (part.place + i) k h)) inv.1
 
-    end : part.to ≤ r.next → (ws : List ℕ) → PartOf ws at weights part → PassedTo ws at part i r
-    end h ws d = passed_is ws at weights part d i s.requires.i_le_keys r (omega (arith, next-to ws at weights part d i s.requires.i_le_keys)) inv.1
+    end : part.to ≤ k → (ws : List ℕ) → PartOf ws at weights part → PassedTo ws at part i (record { next = part.to; left = left })
+    end h ws d =
+        let last : k ≡ part.to = omega (arith, next-to ws at weights part d i s.requires.i_le_keys) in
+        let there : part.to ≡ next at (part.place + i) = omega (arith, next-to ws at weights part d i s.requires.i_le_keys) in
+        passed_is ws at weights part d i s.requires.i_le_keys (record { next = part.to; left = left }) there
+        (subst (λ (n : ℕ). Counted weights (start part) (record { next = n; left = left })) last inv.1)
 
     -- it stands on one of them: it is passed
-    module _ (h : r.next < part.to) where
-      asked : (r.next < length weights) × (r.left ≤ 300) × (get_or weights r.next 0 ≤ 12) × (r.next ≤ 12)
-      asked =
-          let l : r.next < length weights = omega (arith, inside r.next h, is.marked.same) in (
-            l,
-            omega (arith, is.front, marks-small ws at weights part is r.next),
-            is.marked.small _ (at_mem weights r.next 0 l),
-            omega (arith, is.marked.few, is.marked.same),
-          )
+    module _ (h : k < part.to) where
+      few : (left ≤ 300) × (get_or weights k 0 ≤ 12)
+      few =
+          let l : k < length weights = (inside k h).1 in
+          (omega (arith, is.front, marks-small s.requires.by_index.0 at weights part is k), is.marked.small _ (at_mem weights k 0 l))
 
-      on : get_or at r.next 0 < part.place + i → (r' : Passed) → r'.next ≡ r.next + 1 → r'.left ≡ r.left + get_or weights r.next 0
-          → (r'.next ≤ next at (part.place + i)) × Counted weights (start part) r'
-      on l r' a b = (
-        omega (arith, next_more at (part.place + i) r.next inv.0 (inside r.next h) l),
-        counted-one weights (start part) r r' asked.0 a b inv.1,
+      on : get_or at k 0 < part.place + i → (k + 1 ≤ next at (part.place + i)) × Counted weights (start part) (record { next = k + 1; left = left + get_or weights k 0 })
+      on l = (
+        omega (arith, next_more at (part.place + i) k inv.0 (inside k h).0 l),
+        counted-one weights (start part) (record { next = k; left = left }) (record { next = k + 1; left = left + get_or weights k 0 }) (inside k h).1 refl refl inv.1,
       )
 
 pub overflow_add-place : goal.overflow_add-place
@@ -68,29 +60,34 @@ overflow_add-place c =
     let fits : c.args.part.place + c.args.i ≤ 4096 = omega (arith, (is (goal.at.overflow_add-place c).Start).inside, (is (goal.at.overflow_add-place c).Start).small) in
     omega arith
 
-pub loop-p-init : goal.loop-p-init
-loop-p-init c =
-    (omega (arith, (is (goal.at.loop-p-init c).Start).from, next_grows (at (goal.at.loop-p-init c).Start) (part (goal.at.loop-p-init c).Start).place ((part (goal.at.loop-p-init c).Start).place + i (goal.at.loop-p-init c).Start) (omega arith)), refl)
+pub loop-next-init : goal.loop-next-init
+loop-next-init c =
+    (omega (arith, (is (goal.at.loop-next-init c).Start).from, next_grows c.args.at.now c.args.part.place (c.args.part.place + c.args.i) (omega arith)), refl)
 
 pub offset_bounds-at-next : goal.offset_bounds-at-next
-offset_bounds-at-next c = omega (arith, inside (goal.at.offset_bounds-at-next c).Start _ c.loop-p-test.true)
+offset_bounds-at-next c = omega (arith, inside (goal.at.offset_bounds-at-next c).Start _ c.loop-next-test.true)
 
 pub bounds-at-next : goal.bounds-at-next
-bounds-at-next c = inside (goal.at.bounds-at-next c).Start _ c.loop-p-test.true
+bounds-at-next c = (inside (goal.at.bounds-at-next c).Start _ c.loop-next-test.true).0
 
 pub returns-then-place-at : goal.returns-then-place-at
 returns-then-place-at c =
-    hit (goal.at.returns-then-place-at c).Start c.loop-p.p c.loop-p.invariant (omega (arith, c.if-place-at.true))
+    hit (goal.at.returns-then-place-at c).Start c.loop-next.next c.loop-next.left c.loop-next.invariant (omega (arith, c.if-place-at.true))
 
-pub pass_one-p-requires : goal.pass_one-p-requires
-pass_one-p-requires c =
-    asked (goal.at.pass_one-p-requires c).Start c.loop-p.p c.loop-p.invariant c.loop-p-test.true
+pub offset_bounds-weights-next : goal.offset_bounds-weights-next
+offset_bounds-weights-next c = omega (arith, inside (goal.at.offset_bounds-weights-next c).Start _ c.loop-next-test.true)
 
-pub loop-p-preserved : goal.loop-p-preserved
-loop-p-preserved c =
-    let one = c.pass_one-p in
-    on (goal.at.loop-p-preserved c).Start c.loop-p.p c.loop-p.invariant c.loop-p-test.true c.if-place-at.false one.result one.ensures.0 one.ensures.1
+pub bounds-weights-next : goal.bounds-weights-next
+bounds-weights-next c = (inside (goal.at.bounds-weights-next c).Start _ c.loop-next-test.true).1
+
+pub overflow_add-left : goal.overflow_add-left
+overflow_add-left c =
+    omega (arith, few (goal.at.overflow_add-left c).Start c.loop-next.next c.loop-next.left c.loop-next.invariant c.loop-next-test.true)
+
+pub loop-next-preserved : goal.loop-next-preserved
+loop-next-preserved c =
+    on (goal.at.loop-next-preserved c).Start c.loop-next.next c.loop-next.left c.loop-next.invariant c.loop-next-test.true c.if-place-at.false
 
 pub returns : goal.returns
 returns c =
-    end (goal.at.returns c).Start c.loop-p.p c.loop-p.invariant c.loop-p-test.false
+    end (goal.at.returns c).Start c.loop-next.next c.loop-next.left c.loop-next.invariant c.loop-next-test.false

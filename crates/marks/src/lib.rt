@@ -79,7 +79,7 @@ fn mark_cell(
         return n;
     }
     let p = place_of(list, counts, w, s, marker);
-    let k = mark_from(at, n, p);
+    let k = mark_from(&at[..n], p);
     put_in(&mut at[..n + 1], k, p);
     put_in(&mut weights[..n + 1], k, cell.count);
     n + 1

@@ -1,17 +1,16 @@
 // The marks passed one after the other, and how far a stretch without a mark reaches.
-ghost use Rattle.std.specs.Prelude.{◌≡◌, ℕ, ◌+◌, ◌≤◌, ◌<◌, List, leb, length, take, get_or};
+ghost use Rattle.std.specs.Prelude.{◌≡◌, ℕ, ◌+◌, ◌≤◌, ◌<◌, List, leb, length, get_or};
 ghost use Rattle.lists.specs.Search.{place_by};
 ghost use Rattle.stretches.specs.Parts.{PartOf, PassedTo, reach_of};
 
 use crate::{Part, Passed};
 
-// The first of the first `n` marks that stands at a place or past it, or `n`.
-pub fn mark_from(at: &[usize], n: usize, place: usize) -> usize
-    requires { n ≤ length at.now }
-    ensures range { result ≤ n }
-    ensures place { result ≡ place_by (leb place) (take n at.now) }
+// The first mark that stands at a place or past it; how many there are, where none does.
+pub fn mark_from(at: &[usize], place: usize) -> usize
+    ensures range { result ≤ length at.now }
+    ensures place { result ≡ place_by (leb place) at.now }
 {
-    at[..n].iter().position(|m| place <= *m).unwrap_or(n)
+    at.iter().position(|m| place <= *m).unwrap_or(at.len())
 }
 
 // The next mark passed: its weight goes left.

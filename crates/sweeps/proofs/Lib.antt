@@ -1,6 +1,5 @@
 pub mod PlanFor
 pub mod SweptLevel
 pub mod SweptPlan
-pub mod SweptKept
 pub mod SweptLeft
 pub mod Recounted

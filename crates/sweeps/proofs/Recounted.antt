@@ -1,9 +1,10 @@
 -- The counts of a plan written in the table, with the sums over them: what making the sums asks, and that the table is right again.
 use mathlib.Core.Path.{◌≡◌, refl, sym, ap, ◌∙◌}
-use mathlib.Core.List.{List, map}
+use mathlib.Core.List.{List, ◌++◌, map}
 use Prim.Native.Nat.{ℕ, ◌+◌, ◌-◌, ◌/◌, ◌^◌, ◌≤◌}
 use native.Mathlib.Omega.{arith}
 use lib.ListN.{length, get_or, take, length-map}
+use borrow.Rule.Slice.PartMut.{put_mid, Post-is}
 use Rattle.lists.specs.Lists.{splice}
 use Rattle.lists.proofs.Maps.{length-splice}
 use Rattle.slots.specs.Segments.{Segments}
@@ -14,6 +15,11 @@ use Rattle.tables.specs.Tree.{SumsBut}
 use Rattle.tables.proofs.Spliced.{spliced-sums, spliced-counts, spliced-loose}
 use Rattle.seats.specs.Bounds.{Indexed}
 use Rattle.seats.proofs.Indexes.{table-many}
+
+-- a plan copied over its places
+pub copied : (first : ℕ) (table plan new : List ℕ) → new ≡ plan → put_mid first (first + length plan - first) table new ≡ splice first (length plan) plan table
+copied first table plan new e =
+    rw e (ap (λ (t : List ℕ). take first table ++ (plan ++ t)) (Post-is first (first + length plan) table (omega arith)))
 
 module _ (first : ℕ) (table plan kept : List ℕ) (some : 1 ≤ length plan) (is : kept ≡ splice first (length plan) plan table) where
   pub recount-asks : {ss : Segments} {slots bounds : List ℕ} → Indexed ss slots bounds table → first + length plan ≤ length ss → ((k : ℕ) → get_or plan k 0 ≤ 64)

@@ -21,11 +21,7 @@ fn front_weight(forecast: Forecast, first: usize) -> usize
     requires { Tidy forecast }
     ensures { result ≡ (if eqb first 0 then weight (used_cells forecast) 0 else 0) }
 {
-    if first == 0 {
-        forecast.weight_of(0)
-    } else {
-        0
-    }
+    if first == 0 { forecast.weight_of(0) } else { 0 }
 }
 
 // How many keys each segment of the window gets that the request sweeps, into `plan`: the keys that weigh are marked where they will stand.

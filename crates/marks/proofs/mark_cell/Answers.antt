@@ -36,7 +36,8 @@ pub returns-clause-marks : goal.returns-clause-marks
 returns-clause-marks c ss q m =
     let p = c.place_of-p in
     let a = c.args in
+    let few : c.mark_from-k.result ≤ a.n = omega (arith, length-take-le a.n a.at.now (omega arith)) in
     one-put a.cell (after a.w ss) (take a.n a.at.now) (take a.n a.weights.now) _ _ p.result c.mark_from-k.result
     (inside_one a.list.now a.counts.now a.w ss q a.cell m c.if-marker-eq0.false (grind (arith, common_steps)) (grind (arith, common_steps)))
     (p.ensures ss q (stands-in a.list.now a.counts.now a.w ss q a.cell m c.if-marker-eq0.false))
-    c.mark_from-k.ensures.place (put-part a.n _ _ _ _ (omega arith) (omega arith) c.put_in.ensures) (put-part a.n _ _ _ _ (omega arith) (omega arith) c.put_in-2.ensures)
+    c.mark_from-k.ensures.place (put-part a.n _ _ _ _ (omega arith) few c.put_in.ensures) (put-part a.n _ _ _ _ (omega arith) few c.put_in-2.ensures)

@@ -22,10 +22,6 @@ use Rattle.sweeps.proofs.plan_sweep.Goals as goal
 use Rattle.sweeps.proofs.plan_sweep.Goals.{After-front_weight-front, After-power-n, After-whole-part, Start}
 use Rattle.sweeps.proofs.plan_sweep.Lts.View.{up-After-front_weight-front, up-After-power-n}
 
--- the rows are arrays of seven
-rows_long : (s : Start) → (length s.args.shape.lows ≡ 7) × (length s.args.shape.highs ≡ 7)
-rows_long s = (search rules, search rules)
-
 -- a part of the buffer is lent
 buffer : (s : Start) {n : ℕ} → n ≤ 64 → length (take n s.args.plan.now) ≡ n
 buffer s {n} h = length-take-le n s.args.plan.now (omega (arith, s.requires.le_level.1))
@@ -92,14 +88,8 @@ slice_bounds-plan_window-end c = sym (length-take-le _ _ (search rules))
 pub slice_bounds-plan_window-end-2 : goal.slice_bounds-plan_window-end-2
 slice_bounds-plan_window-end-2 c = sym (length-take-le _ _ (search rules))
 
-pub slice_bounds-plan_window-end-3 : goal.slice_bounds-plan_window-end-3
-slice_bounds-plan_window-end-3 c = sym (rows_long (goal.at.slice_bounds-plan_window-end-3 c).Start).0
-
 pub slice_bounds-plan_window-end-4 : goal.slice_bounds-plan_window-end-4
-slice_bounds-plan_window-end-4 c = sym (rows_long (goal.at.slice_bounds-plan_window-end-4 c).Start).1
-
-pub slice_bounds-plan_window-end-6 : goal.slice_bounds-plan_window-end-6
-slice_bounds-plan_window-end-6 c = sym (buffer (goal.at.slice_bounds-plan_window-end-6 c).Start c.power-n.ensures.1)
+slice_bounds-plan_window-end-4 c = sym (buffer (goal.at.slice_bounds-plan_window-end-4 c).Start c.power-n.ensures.1)
 
 pub plan_window-requires : goal.plan_window-requires
 plan_window-requires c =

@@ -1,7 +1,6 @@
 -- `whole` has all marks, whose weights are summed.
-use Rattle.std.proofs.Common.{◌≡◌, ℕ, ◌+◌, ◌*◌, ◌^◌, ◌<◌, ◌≤◌, List, length, sum, refl, sym, ap, ◌∙◌, arith, rules}
+use Rattle.std.proofs.Common.{◌≡◌, ℕ, ◌^◌, ◌<◌, ◌≤◌, List, length, sum, refl, ap, arith, rules}
 use Rattle.std.proofs.lemmas.List.Recursion.{is_sum_by}
-use Rattle.std.proofs.lemmas.Grind.{common_steps}
 use lib.Seq.{take-length}
 use Rattle.lists.specs.Lists.{All, total}
 use Rattle.stretches.proofs.Weighing.{total-small}

@@ -1,15 +1,14 @@
 -- `mark_from` finds the first mark that is at a place or past it, or answers how many there are.
-use Rattle.std.proofs.Common.{◌≡◌, leb, take, sym, ap, ◌∙◌, rules, tests}
+use Rattle.std.proofs.Common.{◌≡◌, leb, length, refl, ap, ◌∙◌, rules, tests}
 use Rattle.std.specs.Prelude.{position, unwrap_or}
 use Rattle.std.proofs.lemmas.Iterator.{YieldsList-from_slice}
 use Rattle.std.proofs.lemmas.Iterator.Search.{position_from_yields_List}
-use lib.Seq.{length-take-le}
 use Rattle.stretches.proofs.NextMark.{place-or}
 use Rattle.stretches.proofs.passing.mark_from.Goals as goal
 
 pub returns-clause-place : goal.returns-clause-place
 returns-clause-place c =
-    let marks = take c.args.n c.args.at.now in
+    let marks = c.args.at.now in
     let e : c.position.result ≡ position (leb c.args.place) marks =
     position_from_yields_List (leb c.args.place) _ _ _ c.position.ensures.ran (YieldsList-from_slice marks cc) (λ x b q k. search (rules, tests)) in
-    c.unwrap_or.ensures ∙ ap (λ o. unwrap_or o c.args.n) e ∙ place-or (leb c.args.place) marks (sym (length-take-le _ _ c.requires))
+    c.unwrap_or.ensures ∙ ap (λ o. unwrap_or o (length marks)) e ∙ place-or (leb c.args.place) marks refl

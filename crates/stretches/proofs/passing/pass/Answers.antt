@@ -2,7 +2,6 @@
 use Rattle.std.proofs.Common.{◌≡◌, ℕ, ◌+◌, ◌≤◌, ◌<◌, List, length, get_or, refl, subst, arith}
 use Rattle.lists.proofs.Members.{at_mem}
 use Rattle.stretches.specs.declared.Part.{Part}
-use Rattle.stretches.specs.declared.Passed.{Passed}
 use Rattle.stretches.specs.Parts.{PartOf, PassedTo}
 use Rattle.stretches.proofs.NextMark.{next, next-in, next-hit, next_more, next_grows}
 use Rattle.stretches.proofs.Parts.{Counted, start, counted-one, marks-small, next-to, passed_is}

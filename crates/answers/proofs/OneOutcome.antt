@@ -4,12 +4,7 @@ use mathlib.Core.List.{List}
 use Prim.Native.Nat.{ℕ}
 use Rattle.forecast.specs.declared.Forecast.{Forecast}
 use Rattle.rules.specs.Lent.{Lent}
-use Rattle.answers.specs.declared.MakeReply.{MakeReply}
-use Rattle.answers.specs.declared.CheckAnswer.{CheckAnswer}
-use Rattle.answers.specs.declared.LookupAnswer.{LookupAnswer}
-use Rattle.answers.specs.declared.ScanAnswer.{ScanAnswer}
-use Rattle.answers.specs.declared.InsertReply.{InsertReply}
-use Rattle.answers.specs.declared.DeleteReply.{DeleteReply}
+use Rattle.answers.specs.Answers.{MakeReply, CheckAnswer, LookupAnswer, ScanAnswer, InsertReply, DeleteReply}
 use Rattle.answers.specs.Admits.{MakeAdmits, CheckAdmits, LookupAdmits, ScanAdmits, InsertAdmits, DeleteAdmits}
 use Rattle.answers.proofs.Papers.{make-told, check-told, lookup-told, scan-told, insert-told, delete-told}
 

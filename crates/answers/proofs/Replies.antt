@@ -8,6 +8,7 @@ use Prim.Native.Nat.{ℕ}
 use native.Mathlib.Omega.{arith}
 use borrow.Author.Tests.{eq-eqb, ne_eqb}
 use lib.ListN.{length, replicate}
+use Rattle.std.specs.Prelude.{Err}
 use Rattle.slots.specs.Segments.{Segments, keys, height_of}
 use Rattle.slots.specs.Keys.{member, segment_of}
 use Rattle.levels.specs.Tables.{table_size}
@@ -21,7 +22,6 @@ use Rattle.rules.specs.Looking.{not_found, looked_up, Scanned}
 use Rattle.rules.specs.Calls.{not_made, make}
 use Rattle.demands.proofs.Refusals.Told.{refusal-some}
 use Rattle.demands.proofs.Refusals.CheckCases.{scan_refused}
-use Rattle.answers.specs.declared.ScanAnswer.{ScanAnswer}
 use Rattle.answers.specs.Admits.{ScanAdmits}
 
 -- MAKE
@@ -67,7 +67,7 @@ module _ (y : ℕ) (c : ℕ → ℕ) (ss : Segments) where
 -- SCAN
 -- where the check refuses, a scan tells the number, and the outputs are as they were
 pub refused-admits : (profile : ℕ) (L : Lent) (a : ℕ) (out cards : List ℕ) (x : Refusal) → check_read profile L ≡ refusal_number x
-    → ScanAdmits profile L a out cards (ScanAnswer.Refused x) out cards
+    → ScanAdmits profile L a out cards (Err x) out cards
 refused-admits profile L a out cards x e =
     let p = scan_refused profile L a out cards (omega (arith, refusal-some x)) in
     record {

@@ -7,6 +7,7 @@ use Prim.Native.Nat.{ℕ, ◌<◌}
 use native.Mathlib.Omega.{arith}
 use lib.Dec.{T, eqb, eqb→eq}
 use lib.ListN.{length}
+use Rattle.std.specs.Prelude.{Ok, Err}
 use Rattle.lists.proofs.Computed.{all-at}
 use Rattle.slots.specs.Segments.{live, height_of, segments_of}
 use Rattle.forecast.specs.declared.Forecast.{Forecast}
@@ -23,16 +24,7 @@ use Rattle.demands.proofs.Requests.Checked.{passed, keys-shown}
 use Rattle.demands.proofs.Requests.Tabled.{read-passed}
 use Rattle.demands.proofs.Requests.SingleCalls.{request-unchecked}
 use Rattle.demands.proofs.Sets.SetScan.{scanned-number, scan-none}
-use Rattle.answers.specs.declared.MakeAnswer.{MakeAnswer}
-use Rattle.answers.specs.declared.MakeReply.{MakeReply}
-use Rattle.answers.specs.declared.CheckAnswer.{CheckAnswer}
-use Rattle.answers.specs.declared.LookupAnswer.{LookupAnswer}
-use Rattle.answers.specs.declared.ScanAnswer.{ScanAnswer}
-use Rattle.answers.specs.declared.InsertAnswer.{InsertAnswer}
-use Rattle.answers.specs.declared.InsertReply.{InsertReply}
-use Rattle.answers.specs.declared.DeleteAnswer.{DeleteAnswer}
-use Rattle.answers.specs.declared.DeleteReply.{DeleteReply}
-use Rattle.answers.specs.Answers.{scan_paper}
+use Rattle.answers.specs.Answers.{MakeReply, CheckAnswer, LookupAnswer, ScanAnswer, InsertReply, DeleteReply, scan_paper}
 use Rattle.answers.specs.Admits.{MakeAdmits, CheckAdmits, LookupAdmits, ScanAdmits, InsertAdmits, DeleteAdmits}
 use Rattle.demands.proofs.Refusals.CheckCases.{wrong-length, read_first, check-first, lookup_refused, scan-passed}
 use Rattle.answers.proofs.Replies.{make_refused, refused-admits}
@@ -63,35 +55,39 @@ module _ (profile : ℕ) (known : is_profile profile ≡ true) (L : Lent) (m : M
   request-one : (q : Request) (v : ℕ) (F : Forecast) → request profile q v L F ≡ unchanged L F 1
   request-one q v F = request-unchecked profile q v L F (omega (arith, check-one F)) ∙ ap (unchanged L F) (check-one F)
 
-  pub make-wrong : (r : MakeReply) (left : Lent) → MakeAdmits profile L r left → (r.answer ≡ MakeAnswer.Refused WrongLength) × (r.forecast ≡ forecast_of []) × (left ≡ L)
+  pub make-wrong : (r : MakeReply) (left : Lent) → MakeAdmits profile L r left → (r.answer ≡ Err WrongLength) × (r.forecast ≡ forecast_of []) × (left ≡ L)
   make-wrong r left a =
       let e = make_refused profile L known no-height in
-      (make-told r.answer (MakeAnswer.Refused WrongLength) (a.answer ∙ ap (λ (d : Made). d.number) e), a.forecast ∙ ap (λ (d : Made). d.forecast) e, a.lent_left ∙ ap (λ (d : Made). d.lent) e)
+      (make-told r.answer (Err WrongLength) (a.answer ∙ ap (λ (d : Made). d.number) e), a.forecast ∙ ap (λ (d : Made). d.forecast) e, a.lent_left ∙ ap (λ (d : Made). d.lent) e)
 
-  pub check-wrong : (F : Forecast) (r : CheckAnswer) → CheckAdmits profile L F r → r ≡ CheckAnswer.Refused WrongLength
-  check-wrong F r a = check-told r (CheckAnswer.Refused WrongLength) (a.answer ∙ check-one F)
+  pub check-wrong : (F : Forecast) (r : CheckAnswer) → CheckAdmits profile L F r → r ≡ Err WrongLength
+  check-wrong F r a = check-told r (Err WrongLength) (a.answer ∙ check-one F)
 
-  pub lookup-wrong : (y : ℕ) (r : LookupAnswer) → LookupAdmits profile L y r → r ≡ LookupAnswer.Refused WrongLength
-  lookup-wrong y r a = lookup-told r (LookupAnswer.Refused WrongLength) (a.answer ∙ lookup_refused profile L y (omega (arith, read_one)) ∙ ap not_found read_one)
+  pub lookup-wrong : (y : ℕ) (r : LookupAnswer) → LookupAdmits profile L y r → r ≡ Err WrongLength
+  lookup-wrong y r a = lookup-told r (Err WrongLength) (a.answer ∙ lookup_refused profile L y (omega (arith, read_one)) ∙ ap not_found read_one)
 
   pub scan-wrong : (a : ℕ) (out cards : List ℕ) (r : ScanAnswer) (left left-cards : List ℕ) → ScanAdmits profile L a out cards r left left-cards
-      → (r ≡ ScanAnswer.Refused WrongLength) × (left ≡ out) × (left-cards ≡ cards)
+      → (r ≡ Err WrongLength) × (left ≡ out) × (left-cards ≡ cards)
   scan-wrong a out cards r left left-cards p =
-      scan-one profile L a out cards r (ScanAnswer.Refused WrongLength) left out left-cards cards p (refused-admits profile L a out cards WrongLength read_one)
+      scan-one profile L a out cards r (Err WrongLength) left out left-cards cards p (refused-admits profile L a out cards WrongLength read_one)
 
-  pub insert-wrong : (F : Forecast) (y v : ℕ) (r : InsertReply) (left : Lent) → InsertAdmits profile L F y v r left → (r.answer ≡ InsertAnswer.Refused WrongLength) × (r.forecast ≡ F) × (left ≡ L)
+  pub insert-wrong : (F : Forecast) (y v : ℕ) (r : InsertReply) (left : Lent) → InsertAdmits profile L F y v r left → (r.answer ≡ Err WrongLength) × (r.forecast ≡ F) × (left ≡ L)
   insert-wrong F y v r left a =
       let e = request-one (Insert y) v F in
-      (insert-told r.answer (InsertAnswer.Refused WrongLength) (a.answer ∙ ap (λ (d : Called). d.answer) e), a.forecast ∙ ap (λ (d : Called). d.forecast) e, a.lent_left ∙ ap (λ (d : Called). d.lent) e)
+      (insert-told r.answer (Err WrongLength) (a.answer ∙ ap (λ (d : Called). d.answer) e), a.forecast ∙ ap (λ (d : Called). d.forecast) e, a.lent_left ∙ ap (λ (d : Called). d.lent) e)
 
-  pub delete-wrong : (F : Forecast) (y : ℕ) (r : DeleteReply) (left : Lent) → DeleteAdmits profile L F y r left → (r.answer ≡ DeleteAnswer.Refused WrongLength) × (r.forecast ≡ F) × (left ≡ L)
+  pub delete-wrong : (F : Forecast) (y : ℕ) (r : DeleteReply) (left : Lent) → DeleteAdmits profile L F y r left → (r.answer ≡ Err WrongLength) × (r.forecast ≡ F) × (left ≡ L)
   delete-wrong F y r left a =
       let e = request-one (Delete y) 0 F in
-      (delete-told r.answer (DeleteAnswer.Refused WrongLength) (a.answer ∙ ap (λ (d : Called). d.answer) e), a.forecast ∙ ap (λ (d : Called). d.forecast) e, a.lent_left ∙ ap (λ (d : Called). d.lent) e)
+      (delete-told r.answer (Err WrongLength) (a.answer ∙ ap (λ (d : Called). d.answer) e), a.forecast ∙ ap (λ (d : Called). d.forecast) e, a.lent_left ∙ ap (λ (d : Called). d.lent) e)
 
 -- a live key above a exists
 abbrev Exceeds : List ℕ → ℕ → Type 0
 Exceeds ks a = (k : ℕ) × Mem k ks × (a < k)
+
+-- no key written, and whether more remain
+abbrev nothing-written : Bool → ScanAnswer
+nothing-written more = Ok (record { keys = 0; more = more })
 
 -- SUM 11: a scan with an empty output writes 0 keys, and says that more remain exactly if a live key above a exists
 module _ (profile : ℕ) (L : Lent) (a : ℕ) (out cards : List ℕ) (empty : (out ≡ []) ⊎ (cards ≡ [])) where
@@ -99,7 +95,7 @@ module _ (profile : ℕ) (L : Lent) (a : ℕ) (out cards : List ℕ) (empty : (o
   s = scanned a (cards_of L) (segments_of L.slots) out cards
 
   pub scan-empty : (r : ScanAnswer) (left left-cards : List ℕ) → check_read profile L ≡ 0 → ScanAdmits profile L a out cards r left left-cards
-      → ((r ≡ ScanAnswer.Ended 0) ⊎ (r ≡ ScanAnswer.More 0)) × ((r ≡ ScanAnswer.More 0) ↔ ((k : ℕ) × Mem k (live L.slots) × (a < k)))
+      → ((r ≡ nothing-written false) ⊎ (r ≡ nothing-written true)) × ((r ≡ nothing-written true) ↔ ((k : ℕ) × Mem k (live L.slots) × (a < k)))
   scan-empty r left left-cards e p = go s.more refl
     where
       told : T s.more ↔ Exceeds (live L.slots) a
@@ -117,13 +113,12 @@ module _ (profile : ℕ) (L : Lent) (a : ℕ) (out cards : List ℕ) (empty : (o
       more : (scan_paper r).more ≡ s.more
       more = p.more ∙ ap (λ (z : Scanned). z.more) is
 
-      go : (b : Bool) → s.more ≡ b → ((r ≡ ScanAnswer.Ended 0) ⊎ (r ≡ ScanAnswer.More 0)) × ((r ≡ ScanAnswer.More 0) ↔ Exceeds (live L.slots) a)
-      go true q =
-          let m : r ≡ ScanAnswer.More 0 = scan-told r (ScanAnswer.More 0) (λ i. record { number = number i; written = written i; more = (more ∙ q) i }) in
-          (inr m, (λ _. told.0 (rw q tt), λ _. m))
-      go false q =
-          let m : r ≡ ScanAnswer.Ended 0 = scan-told r (ScanAnswer.Ended 0) (λ i. record { number = number i; written = written i; more = (more ∙ q) i }) in
-          (inl m, (λ n. absurd (other (sym m ∙ n)), λ k. absurd (rw q at (told.1 k))))
+      is-told : (b : Bool) → s.more ≡ b → r ≡ nothing-written b
+      is-told b q = scan-told r (nothing-written b) (λ i. record { number = number i; written = written i; more = (more ∙ q) i })
+
+      go : (b : Bool) → s.more ≡ b → ((r ≡ nothing-written false) ⊎ (r ≡ nothing-written true)) × ((r ≡ nothing-written true) ↔ Exceeds (live L.slots) a)
+      go true q = (inr (is-told true q), (λ _. told.0 (rw q tt), λ _. is-told true q))
+      go false q = (inl (is-told false q), (λ n. absurd (other (sym (is-told false q) ∙ n)), λ k. absurd (rw q at (told.1 k))))
         where
-          other : ScanAnswer.Ended 0 ≡ ScanAnswer.More 0 → ⊥
-          other n = let z : ◌≡◌ {A = ℕ} 0 1 = cc in omega arith
+          other : nothing-written false ≡ nothing-written true → ⊥
+          other n = subst T (sym (ap (λ (x : ScanAnswer). (scan_paper x).more) n)) tt

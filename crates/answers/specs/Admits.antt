@@ -4,13 +4,7 @@ use Rattle.forecast.specs.declared.Forecast.{Forecast}
 use Rattle.rules.specs.Lent.{Lent}
 use Rattle.rules.specs.Checks.{check}
 use Rattle.rules.specs.Calls as rules
-use Rattle.answers.specs.declared.MakeReply.{MakeReply}
-use Rattle.answers.specs.declared.CheckAnswer.{CheckAnswer}
-use Rattle.answers.specs.declared.LookupAnswer.{LookupAnswer}
-use Rattle.answers.specs.declared.ScanAnswer.{ScanAnswer}
-use Rattle.answers.specs.declared.InsertReply.{InsertReply}
-use Rattle.answers.specs.declared.DeleteReply.{DeleteReply}
-use Rattle.answers.specs.Answers.{make_number, check_number, lookup_paper, scan_paper, insert_paper, delete_paper}
+use Rattle.answers.specs.Answers.{MakeReply, CheckAnswer, LookupAnswer, ScanAnswer, InsertReply, DeleteReply, make_number, check_number, lookup_paper, scan_paper, insert_paper, delete_paper}
 
 -- make: the profile's number, what is lent (slots, cards and table), the reply, and what is left of it
 pub record MakeAdmits (profile : ℕ) (L : Lent) (r : MakeReply) (left : Lent) : Type 0 where

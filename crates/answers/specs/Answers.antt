@@ -1,27 +1,39 @@
--- The paper's number and values of each answer.
-use Rattle.std.specs.Prelude.{ℕ, Bool, true, false}
-use Rattle.rules.specs.Refusals.{refusal_number}
+-- The answers and replies of the public calls, and the paper's number and values of each answer.
+use Rattle.std.specs.Prelude.{ℕ, Bool, true, false, Option, Some, None, Result, Ok, Err, ⊤}
+use Rattle.scans.specs.declared.Written.{Written}
+use Rattle.rules.specs.declared.Refusal.{Refusal}
+use Rattle.rules.specs.Refusals.{refusal_number, Verdict, verdict_number}
 use Rattle.rules.specs.Placing.{Answer, refused}
 use Rattle.rules.specs.Looking.{Found, not_found}
-use Rattle.answers.specs.declared.MakeAnswer.{MakeAnswer}
-use Rattle.answers.specs.declared.CheckAnswer.{CheckAnswer}
-use Rattle.answers.specs.declared.LookupAnswer.{LookupAnswer}
-use Rattle.answers.specs.declared.ScanAnswer.{ScanAnswer}
-use Rattle.answers.specs.declared.InsertAnswer.{InsertAnswer}
-use Rattle.answers.specs.declared.DeleteAnswer.{DeleteAnswer}
+use Rattle.answers.specs.declared.Entry.{Entry}
+use Rattle.answers.specs.declared.Deleted.{Deleted}
+use Rattle.answers.specs.declared.Reply.{Reply}
+
+abbrev pub MakeAnswer : Type 0
+MakeAnswer = Verdict
+
+abbrev pub MakeReply : Type 0
+MakeReply = Reply ⊤
 
 abbrev pub make_number : MakeAnswer → ℕ
-make_number (MakeAnswer.Refused x) = refusal_number x
-make_number MakeAnswer.Made = 0
+make_number = verdict_number
+
+abbrev pub CheckAnswer : Type 0
+CheckAnswer = Verdict
 
 abbrev pub check_number : CheckAnswer → ℕ
-check_number (CheckAnswer.Refused x) = refusal_number x
-check_number CheckAnswer.Passed = 0
+check_number = verdict_number
+
+abbrev pub LookupAnswer : Type 0
+LookupAnswer = Result (Option Entry) Refusal
 
 abbrev pub lookup_paper : LookupAnswer → Found
-lookup_paper (LookupAnswer.Refused x) = not_found (refusal_number x)
-lookup_paper (LookupAnswer.Present s v) = record { number = 0; present = true; segment = s; card = v }
-lookup_paper LookupAnswer.Absent = not_found 0
+lookup_paper (Err x) = not_found (refusal_number x)
+lookup_paper (Ok (Some e)) = record { number = 0; present = true; segment = e.segment; card = e.card }
+lookup_paper (Ok None) = not_found 0
+
+abbrev pub ScanAnswer : Type 0
+ScanAnswer = Result Written Refusal
 
 -- a scan's number, how many keys are written, and whether more remain
 pub record ScanPaper : Type 0 where
@@ -30,15 +42,25 @@ pub record ScanPaper : Type 0 where
   pub more : Bool
 
 abbrev pub scan_paper : ScanAnswer → ScanPaper
-scan_paper (ScanAnswer.Refused x) = record { number = refusal_number x; written = 0; more = false }
-scan_paper (ScanAnswer.Ended n) = record { number = 0; written = n; more = false }
-scan_paper (ScanAnswer.More n) = record { number = 0; written = n; more = true }
+scan_paper (Err x) = record { number = refusal_number x; written = 0; more = false }
+scan_paper (Ok w) = record { number = 0; written = w.keys; more = w.more }
+
+abbrev pub InsertAnswer : Type 0
+InsertAnswer = Result ℕ Refusal
+
+abbrev pub InsertReply : Type 0
+InsertReply = Reply ℕ
 
 abbrev pub insert_paper : InsertAnswer → Answer
-insert_paper (InsertAnswer.Refused x) = refused (refusal_number x)
-insert_paper (InsertAnswer.Inserted n) = record { number = 0; moves = n; sparse = false }
+insert_paper (Err x) = refused (refusal_number x)
+insert_paper (Ok n) = record { number = 0; moves = n; sparse = false }
+
+abbrev pub DeleteAnswer : Type 0
+DeleteAnswer = Result Deleted Refusal
+
+abbrev pub DeleteReply : Type 0
+DeleteReply = Reply Deleted
 
 abbrev pub delete_paper : DeleteAnswer → Answer
-delete_paper (DeleteAnswer.Refused x) = refused (refusal_number x)
-delete_paper (DeleteAnswer.Deleted n) = record { number = 0; moves = n; sparse = false }
-delete_paper (DeleteAnswer.DeletedSparse n) = record { number = 0; moves = n; sparse = true }
+delete_paper (Err x) = refused (refusal_number x)
+delete_paper (Ok d) = record { number = 0; moves = d.moves; sparse = d.sparse }

@@ -9,12 +9,7 @@ use Rattle.rules.specs.Shares.{shares}
 use Rattle.demands.specs.PlainSet as set
 use Rattle.rules.specs.Lent.{Lent}
 use Rattle.demands.specs.Demand2.{Holds, Held, ruled_all, all_ruled_moves, ruled_all_cards, empty_room, IsRoom}
-use Rattle.answers.specs.declared.MakeReply.{MakeReply}
-use Rattle.answers.specs.declared.LookupAnswer.{LookupAnswer}
-use Rattle.answers.specs.declared.ScanAnswer.{ScanAnswer}
-use Rattle.answers.specs.declared.InsertReply.{InsertReply}
-use Rattle.answers.specs.declared.DeleteReply.{DeleteReply}
-use Rattle.answers.specs.Answers.{lookup_paper, scan_paper, insert_paper, delete_paper}
+use Rattle.answers.specs.Answers.{MakeReply, LookupAnswer, ScanAnswer, InsertReply, DeleteReply, lookup_paper, scan_paper, insert_paper, delete_paper}
 use Rattle.answers.specs.Admits.{MakeAdmits, LookupAdmits, ScanAdmits, InsertAdmits, DeleteAdmits}
 
 abbrev pub held : Lent → Forecast → Held

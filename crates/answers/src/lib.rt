@@ -2,65 +2,47 @@
 #![tactic(auto)]
 
 use forecast::Forecast;
-use rules::Refusal;
+use rules::{Refusal, Verdict};
+use scans::Written;
 
-// Each answer is a refusal, or one of the kinds of acceptance of its call.
+// What a call leaves of a forecast, and its answer.
 #[derive(Clone, Copy)]
-pub enum MakeAnswer {
-    Refused(Refusal),
-    Made,
-}
-
-#[derive(Clone, Copy)]
-pub struct MakeReply {
+pub struct Reply<A> {
     pub forecast: Forecast,
-    pub answer: MakeAnswer,
+    pub answer: Result<A, Refusal>,
 }
 
-#[derive(Clone, Copy)]
-pub enum CheckAnswer {
-    Refused(Refusal),
-    Passed,
+pub type MakeAnswer = Verdict;
+
+pub type MakeReply = Reply<()>;
+
+pub type CheckAnswer = Verdict;
+
+// Where a live key is, and its card.
+#[derive(Clone, Copy, PartialEq, Eq, Debug)]
+pub struct Entry {
+    pub segment: usize,
+    pub card: u32,
 }
 
-// Present, with the segment and the card.
-#[derive(Clone, Copy)]
-pub enum LookupAnswer {
-    Refused(Refusal),
-    Present(usize, u32),
-    Absent,
+// None: the key is not live.
+pub type LookupAnswer = Result<Option<Entry>, Refusal>;
+
+// The number of keys written, each with its card, and whether more remain.
+pub type ScanAnswer = Result<Written, Refusal>;
+
+// The moves.
+pub type InsertAnswer = Result<u64, Refusal>;
+
+pub type InsertReply = Reply<u64>;
+
+// The moves, and whether the list is sparse then.
+#[derive(Clone, Copy, PartialEq, Eq, Debug)]
+pub struct Deleted {
+    pub moves: u64,
+    pub sparse: bool,
 }
 
-// With the number of keys written, each with its card.
-#[derive(Clone, Copy)]
-pub enum ScanAnswer {
-    Refused(Refusal),
-    Ended(usize),
-    More(usize),
-}
+pub type DeleteAnswer = Result<Deleted, Refusal>;
 
-// With the moves.
-#[derive(Clone, Copy)]
-pub enum InsertAnswer {
-    Refused(Refusal),
-    Inserted(u64),
-}
-
-#[derive(Clone, Copy)]
-pub struct InsertReply {
-    pub forecast: Forecast,
-    pub answer: InsertAnswer,
-}
-
-#[derive(Clone, Copy)]
-pub enum DeleteAnswer {
-    Refused(Refusal),
-    Deleted(u64),
-    DeletedSparse(u64),
-}
-
-#[derive(Clone, Copy)]
-pub struct DeleteReply {
-    pub forecast: Forecast,
-    pub answer: DeleteAnswer,
-}
+pub type DeleteReply = Reply<Deleted>;

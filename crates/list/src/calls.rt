@@ -22,21 +22,14 @@ pub fn check(
 ) -> CheckAnswer
     ensures { CheckAdmits profile (lend list.now cards.now table.now) forecast result }
 {
-    let verdict = checks::look_lent(profile, list, cards, table, forecast).verdict;
-    match verdict {
-        Err(refusal) => CheckAnswer::Refused(refusal),
-        Ok(()) => CheckAnswer::Passed,
-    }
+    checks::look_lent(profile, list, cards, table, forecast).verdict
 }
 
 // Whether a key is live, where, and its card.
 pub fn lookup(profile: u64, list: &[u64], cards: &[u32], table: &[usize], key: u64) -> LookupAnswer
     ensures { LookupAdmits profile (lend list.now cards.now table.now) key result }
 {
-    let verdict = checks::look_read(profile, list, cards, table).verdict;
-    if let Err(refusal) = verdict {
-        return LookupAnswer::Refused(refusal);
-    }
+    checks::look_read(profile, list, cards, table).verdict?;
     looks::look_up(list, cards, table, key)
 }
 
@@ -52,9 +45,6 @@ pub fn scan(
 ) -> ScanAnswer
     ensures { ScanAdmits profile (lend list.now cards.now table.now) from output.old output_cards.old result output.new output_cards.new }
 {
-    let verdict = checks::look_read(profile, list, cards, table).verdict;
-    if let Err(refusal) = verdict {
-        return ScanAnswer::Refused(refusal);
-    }
+    checks::look_read(profile, list, cards, table).verdict?;
     looks::scan_from(list, cards, table, from, output, output_cards)
 }

@@ -2,7 +2,7 @@
 ghost use Rattle.rules.specs.Lent.{lend};
 ghost use Rattle.answers.specs.Admits.{InsertAdmits, DeleteAdmits};
 
-use answers::{DeleteAnswer, DeleteReply, InsertAnswer, InsertReply};
+use answers::{DeleteReply, Deleted, InsertReply, Reply};
 use forecast::Forecast;
 
 // Puts a new key in, with its card.
@@ -18,17 +18,9 @@ pub fn insert(
     ensures { InsertAdmits profile (lend list.old cards.old table.old) forecast key card result (lend list.new cards.new table.new) }
 {
     let reply = asking::ask(profile, list, cards, table, forecast, true, key, card);
-    let verdict = reply.verdict;
-    let after = reply.forecast;
-    if let Err(refusal) = verdict {
-        return InsertReply {
-            forecast: after,
-            answer: InsertAnswer::Refused(refusal),
-        };
-    }
-    InsertReply {
-        forecast: after,
-        answer: InsertAnswer::Inserted(reply.moves),
+    Reply {
+        forecast: reply.forecast,
+        answer: reply.verdict.and(Ok(reply.moves)),
     }
 }
 
@@ -44,23 +36,11 @@ pub fn delete(
     ensures { DeleteAdmits profile (lend list.old cards.old table.old) forecast key result (lend list.new cards.new table.new) }
 {
     let reply = asking::ask(profile, list, cards, table, forecast, false, key, 0);
-    let verdict = reply.verdict;
-    let after = reply.forecast;
-    let moves = reply.moves;
-    if let Err(refusal) = verdict {
-        return DeleteReply {
-            forecast: after,
-            answer: DeleteAnswer::Refused(refusal),
-        };
-    }
-    if reply.sparse {
-        return DeleteReply {
-            forecast: after,
-            answer: DeleteAnswer::DeletedSparse(moves),
-        };
-    }
-    DeleteReply {
-        forecast: after,
-        answer: DeleteAnswer::Deleted(moves),
+    Reply {
+        forecast: reply.forecast,
+        answer: reply.verdict.and(Ok(Deleted {
+            moves: reply.moves,
+            sparse: reply.sparse,
+        })),
     }
 }

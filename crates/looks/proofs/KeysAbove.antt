@@ -11,6 +11,7 @@ use lib.Dec.{T, ltb}
 use borrow.Author.Tests.{lt-ltb, le-ltb}
 use lib.ListN.{length, take, drop, get_or, length-take, take-append-drop}
 use lib.Seq.{take-take, take_all}
+use Rattle.std.specs.Prelude.{Ok}
 use Rattle.slots.specs.declared.Place.{Place}
 use Rattle.slots.specs.Segments.{Segments, keys, segments_of}
 use Rattle.slots.specs.Keys.{Rising, Listed, member, above}
@@ -30,8 +31,6 @@ use Rattle.demands.proofs.Requests.Tabled.{read-passed}
 use Rattle.demands.proofs.Refusals.CheckCases.{scan-passed}
 use Rattle.demands.proofs.Sets.SetLaws.{above-beyond}
 use Rattle.demands.proofs.Sets.SetScan.{page, scanned-number, scanned-written, scanned-more, scanned-output, scanned-cards}
-use Rattle.answers.specs.declared.ScanAnswer.{ScanAnswer}
-use Rattle.answers.specs.Answers.{scan_paper}
 use Rattle.answers.specs.Admits.{ScanAdmits}
 use Rattle.scans.specs.declared.Written.{Written}
 use Rattle.scans.specs.Scans.{Wrote, keys_from, shorter, cards_over}
@@ -83,12 +82,7 @@ module _ (y : ℕ) (ss : Segments) (listed : Listed ss) (some : 0 < length ss) w
         let m : Mem y there = member→mem y there (rw (told-there, p) tt) in
         omega (arith, place-old y there rises m, l.at, l.held)
 
--- WHAT A SCAN GIVES: an answer that tells what was written
-pub record Tells (d : Written) (r : ScanAnswer) : Type 0 where
-  pub number : (scan_paper r).number ≡ 0
-  pub written : (scan_paper r).written ≡ d.keys
-  pub more : (scan_paper r).more ≡ d.more
-
+-- WHAT A SCAN GIVES
 -- cut to the shorter of two sizes, a list is cut to one and then to the other
 take-shorter : (m n : ℕ) (xs : List ℕ) → take (shorter m n) xs ≡ take n (take m xs)
 take-shorter m n xs =
@@ -115,15 +109,15 @@ module _ (profile : ℕ) (L : Lent) (e : check_read profile L ≡ 0) (a : ℕ) (
   page-cards : map (card_in (cards_of L)) (take room ks) ≡ map (cards_of L) (take room ks)
   page-cards = beside-alone (cards_of L) (take room ks) (λ k m. omega (arith, (above-mem a (keys ss) k (rw q (subst (Mem k) (take-append-drop room ks) (in_left (drop room ks) m)))).0))
 
-  pub wrote-admits : (d : Written) (r : ScanAnswer) (left left-cards : List ℕ) → Wrote room ks out d left → left-cards ≡ cards_over (card_in (cards_of L)) (take room ks) cards → Tells d r
-      → ScanAdmits profile L a out cards r left left-cards
-  wrote-admits d r left left-cards w v t =
+  pub wrote-admits : (d : Written) (left left-cards : List ℕ) → Wrote room ks out d left → left-cards ≡ cards_over (card_in (cards_of L)) (take room ks) cards
+      → ScanAdmits profile L a out cards (Ok d) left left-cards
+  wrote-admits d left left-cards w v =
       let rising : Rising (keys ss) = (shows-passed profile L.slots (read-passed profile L e).0).listed.rising in
       record {
-        number = t.number ∙ sym (ap (λ (s : Scanned). s.number) scan-is ∙ scanned-number a (cards_of L) ss out cards);
-        written = t.written ∙ w.written ∙ ap (λ (f : List ℕ). length f) page-is ∙ sym (ap (λ (s : Scanned). s.written) scan-is ∙ scanned-written a (cards_of L) ss out cards);
+        number = sym (ap (λ (s : Scanned). s.number) scan-is ∙ scanned-number a (cards_of L) ss out cards);
+        written = w.written ∙ ap (λ (f : List ℕ). length f) page-is ∙ sym (ap (λ (s : Scanned). s.written) scan-is ∙ scanned-written a (cards_of L) ss out cards);
         more =
-            t.more ∙ w.more ∙ ap₂ {C = Bool} (λ (f g : List ℕ). ltb (length f) (length g)) page-is (sym q ∙ above-beyond a (keys ss))
+            w.more ∙ ap₂ {C = Bool} (λ (f g : List ℕ). ltb (length f) (length g)) page-is (sym q ∙ above-beyond a (keys ss))
             ∙ sym (ap (λ (s : Scanned). s.more) scan-is ∙ scanned-more a (cards_of L) ss out cards rising);
         output = w.output ∙ ap (λ (f : List ℕ). f ++ drop (length f) out) page-is ∙ sym (ap (λ (s : Scanned). s.output) scan-is ∙ scanned-output a (cards_of L) ss out cards);
         cards_output =

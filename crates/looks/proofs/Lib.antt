@@ -1,3 +1,5 @@
 pub mod KeysAbove
 pub mod Passed
 pub mod Pasts
+pub mod LookedUp
+pub mod ScannedFrom

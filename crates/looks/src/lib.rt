@@ -10,7 +10,7 @@ ghost use Rattle.rules.specs.Checks.{check_read};
 ghost use Rattle.answers.specs.Admits.{LookupAdmits, ScanAdmits};
 ghost use Rattle.looks.specs.Past.{Past};
 
-use answers::{LookupAnswer, ScanAnswer};
+use answers::{Entry, LookupAnswer, ScanAnswer};
 use rules::Refusal;
 
 // Whether a key is live, where, and its card.
@@ -19,14 +19,17 @@ pub fn look_up(list: &[u64], cards: &[u32], table: &[usize], key: u64) -> Lookup
     ensures { (profile : ℕ) → check_read profile (lend list.now cards.now table.now) ≡ 0 → LookupAdmits profile (lend list.now cards.now table.now) key result }
 {
     if key == 0 {
-        return LookupAnswer::Refused(Refusal::KeyZero);
+        return Err(Refusal::KeyZero);
     }
     let segment = descents::seek(table, list, list.len() / 64, key);
     let place = seeking::finding::place_in(list, 64 * segment, key);
-    if list[place] == key {
-        return LookupAnswer::Present(segment, cards[place]);
+    if list[place] != key {
+        return Ok(None);
     }
-    LookupAnswer::Absent
+    Ok(Some(Entry {
+        segment,
+        card: cards[place],
+    }))
 }
 
 // How many keys of the segment where a search for `from` ends are not above it.
@@ -36,10 +39,7 @@ fn past(list: &[u64], segment: usize, from: u64) -> usize
 {
     let place = seeking::finding::place_in(list, 64 * segment, from);
     let found = list[place];
-    if found == 0 {
-        return 0;
-    }
-    if from < found {
+    if found == 0 || from < found {
         return 0;
     }
     place - 64 * segment + 1
@@ -59,9 +59,5 @@ pub fn scan_from(
 {
     let segment = descents::seek(table, list, list.len() / 64, from);
     let at = past(list, segment, from);
-    let written = scans::write_keys(list, cards, table, segment, at, output, output_cards);
-    if written.more {
-        return ScanAnswer::More(written.keys);
-    }
-    ScanAnswer::Ended(written.keys)
+    Ok(scans::write_keys(list, cards, table, segment, at, output, output_cards))
 }

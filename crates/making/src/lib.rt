@@ -1,41 +1,43 @@
 // Making a list empty.
 #![tactic(auto)]
 
-ghost use Rattle.std.specs.Prelude.{◌≡◌, []};
+ghost use Rattle.std.specs.Prelude.{[]};
 ghost use Rattle.forecast.specs.Cells.{forecast_of};
 ghost use Rattle.rules.specs.Lent.{lend};
 ghost use Rattle.answers.specs.Admits.{MakeAdmits};
 
 use answers::{MakeAnswer, MakeReply};
 use forecast::Forecast;
-use rules::Refusal;
+use rules::{Profile, Refusal};
 
-// What a make answers, with an empty forecast.
-fn told(answer: MakeAnswer) -> MakeReply
-    ensures { result ≡ record { forecast = forecast_of []; answer = answer } }
+// Writes 0 in every slot, every card and every entry of the table.
+fn clear(profile: u64, list: &mut [u64], cards: &mut [u32], table: &mut [usize]) -> MakeAnswer
+    ensures { MakeAdmits profile (lend list.old cards.old table.old) (record { forecast = forecast_of []; answer = result }) (lend list.new cards.new table.new) }
 {
-    let forecast = Forecast::empty();
-    MakeReply { forecast, answer }
-}
-
-// Writes 0 in every slot, every card and every entry of the table and gives an empty forecast.
-pub fn make(profile: u64, list: &mut [u64], cards: &mut [u32], table: &mut [usize]) -> MakeReply
-    ensures { MakeAdmits profile (lend list.old cards.old table.old) result (lend list.new cards.new table.new) }
-{
-    if !shares::is_profile(profile) {
-        return told(MakeAnswer::Refused(Refusal::UnknownProfile));
-    }
+    Profile::try_from(profile)?;
     let n = list.len();
     if places::heights::height_of(n) == 0 {
-        return told(MakeAnswer::Refused(Refusal::WrongLength));
+        return Err(Refusal::WrongLength);
     }
     if cards.len() != n {
-        return told(MakeAnswer::Refused(Refusal::WrongCards));
+        return Err(Refusal::WrongCards);
     }
-    if table.len() != n / 32 - 1 {
-        return told(MakeAnswer::Refused(Refusal::WrongTable));
+    let entries = table.len();
+    if entries != n / 32 - 1 {
+        return Err(Refusal::WrongTable);
     }
     gaps::clear(list, cards, 0, n);
     tables::keeping::clear(table);
-    told(MakeAnswer::Made)
+    Ok(())
+}
+
+// The same, and gives an empty forecast.
+pub fn make(profile: u64, list: &mut [u64], cards: &mut [u32], table: &mut [usize]) -> MakeReply
+    ensures { MakeAdmits profile (lend list.old cards.old table.old) result (lend list.new cards.new table.new) }
+{
+    let answer = clear(profile, list, cards, table);
+    MakeReply {
+        forecast: Forecast::empty(),
+        answer,
+    }
 }

@@ -18,23 +18,14 @@ pub fn no_forecast(forecast: usize) -> bool
 pub fn misfits(forecast: usize, reply: usize, n: usize) -> bool
     ensures { result ≡ (not (eqb forecast 37) || ltb reply n) }
 {
-    if forecast != FORECAST {
-        return true;
-    }
-    reply < n
+    forecast != FORECAST || reply < n
 }
 
 // That, or totals of any other size than theirs.
 pub fn run_misfits(forecast: usize, totals: usize, reply: usize) -> bool
     ensures { result ≡ (not (eqb forecast 37) || (not (eqb totals 4) || ltb reply 4)) }
 {
-    if forecast != FORECAST {
-        return true;
-    }
-    if totals != TOTALS {
-        return true;
-    }
-    reply < 4
+    forecast != FORECAST || totals != TOTALS || reply < 4
 }
 
 // What a call answers where the forecast, the totals or the reply has the wrong size.

@@ -7,12 +7,8 @@ use Rattle.forecast.specs.declared.Forecast.{Forecast}
 use Rattle.rules.specs.Lent.{Lent}
 use Rattle.rules.specs.Checks as checks
 use Rattle.rules.specs.Runs.{one}
-use Rattle.answers.specs.declared.MakeReply.{MakeReply}
-use Rattle.answers.specs.declared.CheckAnswer.{CheckAnswer}
-use Rattle.answers.specs.declared.LookupAnswer.{LookupAnswer}
-use Rattle.answers.specs.declared.ScanAnswer.{ScanAnswer}
 use Rattle.answers.specs.Admits.{MakeAdmits, CheckAdmits, LookupAdmits, ScanAdmits}
-use Rattle.answers.specs.Answers.{make_number, check_number, lookup_paper, scan_paper}
+use Rattle.answers.specs.Answers.{MakeReply, CheckAnswer, LookupAnswer, ScanAnswer, make_number, check_number, lookup_paper, scan_paper}
 use Rattle.given.specs.declared.Told.{Told}
 use Rattle.given.specs.Calls.{not_forecast, short, make, check, lookup, scan, over, Gives}
 use Rattle.given.proofs.Sizes.{fitted, forecast-sized, reply-sized}

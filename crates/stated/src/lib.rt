@@ -5,6 +5,9 @@ ghost use Rattle.std.specs.Prelude.{◌≡◌, [], ◌∷◌, ◌≤◌, length}
 ghost use Rattle.given.specs.Calls.{Gives};
 ghost use Rattle.given.specs.Calls as calls;
 
+use replies::writing::tell;
+use words::numbers::verdict_number;
+
 // Makes a list, its cards, its table and its forecast empty.
 pub fn make(
     profile: u64,
@@ -17,11 +20,8 @@ pub fn make(
     ensures { Gives (calls.make profile list.old cards.old table.old forecast.old) result (list.new ∷ cards.new ∷ table.new ∷ forecast.new ∷ []) }
 {
     let made = list::calls::make(profile, list, cards, table);
-    let answer = made.answer;
-    let number = telling::make_number(answer);
-    let empty = made.forecast;
-    words::write_forecast(empty, forecast);
-    number
+    words::write_forecast(made.forecast, forecast);
+    verdict_number(made.answer)
 }
 
 // Tests refusals 15, 1 to 4 and 12 to 14.
@@ -30,8 +30,7 @@ pub fn check(profile: u64, list: &[u64], cards: &[u32], table: &[usize], forecas
     ensures { Gives (calls.check profile list.now cards.now table.now forecast.now) result [] }
 {
     let given = words::read_forecast(forecast);
-    let passed = telling::check_number(list::calls::check(profile, list, cards, table, given));
-    passed
+    verdict_number(list::calls::check(profile, list, cards, table, given))
 }
 
 // Whether a key is live, where, and its card.
@@ -47,8 +46,7 @@ pub fn lookup(
     ensures { Gives (calls.lookup profile list.now cards.now table.now key reply.old) result (reply.new ∷ []) }
 {
     let found = list::calls::lookup(profile, list, cards, table, key);
-    let told = telling::lookup_told(found);
-    replies::writing::tell_three(told, reply)
+    tell::<3>(telling::lookup_told(found), reply)
 }
 
 // The live keys above `from`, rising, and their cards.
@@ -66,6 +64,5 @@ pub fn scan(
     ensures { Gives (calls.scan profile list.now cards.now table.now from output.old output_cards.old reply.old) result (output.new ∷ output_cards.new ∷ reply.new ∷ []) }
 {
     let scanned = list::calls::scan(profile, list, cards, table, from, output, output_cards);
-    let told = telling::scan_told(scanned);
-    replies::writing::tell_two(told, reply)
+    tell::<2>(telling::scan_told(scanned), reply)
 }

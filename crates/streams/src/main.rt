@@ -97,7 +97,7 @@ fn stream(
     let reply = done.reply;
     let left = reply.forecast;
     let answer = list::calls::check(profile, list, cards, table, left);
-    let check = telling::check_number(answer);
+    let check = words::numbers::verdict_number(answer);
     text(out, name.as_bytes())?;
     let after = done.totals;
     let stop = reply.stop;

@@ -96,12 +96,13 @@ module _ (x : OnWords) where
             kept n G forecast (ap works_on (e ∙ q.1) ∙ early z) ∙ sym (ap forecast_words q.0 ∙ words-again forecast x.forecast-fits))
       ]
 
-  pub run-given : (F : Forecast) (T : Totals) (k : ToldRun) (list' cards' table' forecast' totals' reply' : List ℕ) → F ≡ saturated (forecast_in x.forecast) → T ≡ totals_in x.totals
+  pub run-given : (F : Forecast) (T : Totals) (k : ToldRun) (n : ℕ) (list' cards' table' forecast' totals' reply' : List ℕ) → F ≡ saturated (forecast_in x.forecast) → T ≡ totals_in x.totals
       → RunTells x.profile (lend x.list x.cards x.table) F x.requests x.allowance T k (lend list' cards' table')
+      → n ≡ k.told.stop
       → RunPosted k.told.stop k.told.forecast k.told.tally k.totals x.forecast x.reply forecast' totals' reply'
-      → Gives (run x.profile x.list x.cards x.table x.forecast x.requests x.allowance x.totals x.reply) k.told.stop (list' ∷ cards' ∷ table' ∷ forecast' ∷ totals' ∷ reply' ∷ [])
+      → Gives (run x.profile x.list x.cards x.table x.forecast x.requests x.allowance x.totals x.reply) n (list' ∷ cards' ∷ table' ∷ forecast' ∷ totals' ∷ reply' ∷ [])
   unfolding run
-  run-given F T k list' cards' table' forecast' totals' reply' f g a p =
+  run-given F T k n list' cards' table' forecast' totals' reply' f g a q p =
       let is : rules.run profile L F requests allowance T ≡ rules.run profile L (saturated (forecast_in forecast)) requests allowance (totals_in totals) = λ i. rules.run profile L (f i) requests allowance (g i) in
       let same = run-same profile L (forecast_in forecast) requests allowance (totals_in totals) (forecast_in-roomy forecast) in
       let lent = a.lent_left ∙ ap (λ (w : rules.Worked). w.lent) is ∙ same.lent in
@@ -113,4 +114,4 @@ module _ (x : OnWords) where
       fitted (not_forecast x.forecast || (not_totals x.totals || short x.reply 4)) _ _
       (nor (not_forecast x.forecast) (not_totals x.totals || short x.reply 4) (forecast-sized x.forecast x.forecast-fits)
       (nor (not_totals x.totals) (short x.reply 4) (totals-sized x.totals x.totals-fit) (reply-sized x.reply 4 x.reply-fits)))
-      (record { number = stop; slices = λ i. (lent i).slots ∷ (lent i).cards ∷ (lent i).table ∷ words i ∷ sums i ∷ said i ∷ [] })
+      (record { number = q ∙ stop; slices = λ i. (lent i).slots ∷ (lent i).cards ∷ (lent i).table ∷ words i ∷ sums i ∷ said i ∷ [] })

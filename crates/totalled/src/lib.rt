@@ -25,9 +25,5 @@ pub fn run(
     let ran = told::run_told(
         profile, list, cards, table, given, requests, allowance, before,
     );
-    let done = ran.told;
-    let stop = done.stop;
-    let left = done.forecast;
-    posts::post_run(stop, left, done.tally, ran.totals, forecast, totals, reply);
-    stop
+    posts::post_run(ran, forecast, totals, reply)
 }

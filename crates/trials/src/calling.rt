@@ -27,7 +27,7 @@ fn make(
 ) -> io::Result<Forecast> {
     let reply = list::calls::make(profile, list, cards, table);
     let answer = reply.answer;
-    showing::line(out, b"make", telling::make_number(answer), 0)?;
+    showing::line(out, b"make", words::numbers::verdict_number(answer), 0)?;
     Ok(reply.forecast)
 }
 
@@ -146,7 +146,7 @@ fn check(
     forecast: Forecast,
 ) -> io::Result<()> {
     let answer = list::calls::check(profile, list, cards, table, forecast);
-    showing::line(out, b"check", telling::check_number(answer), 0)
+    showing::line(out, b"check", words::numbers::verdict_number(answer), 0)
 }
 
 // 7: slot x becomes y.

@@ -15,10 +15,8 @@ use Rattle.rules.specs.Lent.{Lent, lend}
 use Rattle.rules.specs.Calls as rules
 use Rattle.demands.specs.Rows.{insert_rows, delete_rows}
 use Rattle.demands.proofs.Refusals.Numbers as below
-use Rattle.answers.specs.declared.InsertReply.{InsertReply}
-use Rattle.answers.specs.declared.DeleteReply.{DeleteReply}
 use Rattle.answers.specs.Admits.{InsertAdmits, DeleteAdmits}
-use Rattle.answers.specs.Answers.{insert_paper, delete_paper}
+use Rattle.answers.specs.Answers.{InsertReply, DeleteReply, insert_paper, delete_paper}
 use Rattle.given.specs.declared.Told.{Told}
 use Rattle.given.specs.Calls.{Given, sized, not_forecast, short, insert, delete, left_by, over, Gives}
 use Rattle.given.proofs.Sizes.{fitted, forecast-sized, reply-sized}

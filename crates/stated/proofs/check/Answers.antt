@@ -7,4 +7,4 @@ pub returns : goal.returns
 returns c =
     let read = c.read_forecast-given in
     let checked = c.check in
-    check-given c.args.profile (lend c.args.list.now c.args.cards.now c.args.table.now) c.args.forecast.now c.requires read.result checked.result c.check_number-passed.result read.ensures checked.ensures c.check_number-passed.ensures
+    check-given c.args.profile (lend c.args.list.now c.args.cards.now c.args.table.now) c.args.forecast.now c.requires read.result checked.result c.verdict_number.result read.ensures checked.ensures c.verdict_number.ensures

@@ -11,6 +11,7 @@ returns c =
     let forecast = c.read_forecast-given in
     let totals = c.read_totals-before in
     let ran = c.run_told-ran in
+    let post = c.post_run in
     let lent : OnWords = record {
       profile = a.profile;
       list = a.list.now;
@@ -25,4 +26,4 @@ returns c =
       totals-fit = c.requires.1;
       reply-fits = c.requires.2;
     } in
-    run-given lent forecast.result totals.result ran.result _ _ _ _ _ _ forecast.ensures totals.ensures ran.ensures c.post_run.ensures
+    run-given lent forecast.result totals.result ran.result post.result _ _ _ _ _ _ forecast.ensures totals.ensures ran.ensures post.ensures.number post.ensures.left

@@ -1,25 +1,10 @@
 -- `delete` gives the answer that the request's verdict comes to, sparse or not.
-use mathlib.Core.Bool.{true, false}
-use Rattle.rules.specs.Lent.{Lent, lend}
-use Rattle.list.proofs.ByVerdict.{answer-refused, answer-done}
+use mathlib.Core.Path.{ap, ◌∙◌}
+use Rattle.answers.specs.Answers.{DeleteAnswer, delete_paper}
+use Rattle.list.proofs.ByVerdict.{delete-told}
 use Rattle.list.proofs.changing.delete.Goals as goal
-use Rattle.list.proofs.changing.delete.Goals.{Start}
-
--- what is lent
-abbrev lent : Start → Lent
-lent s = lend s.args.list.now s.args.cards.now s.args.table.now
-
-pub returns-in-Err : goal.returns-in-Err
-returns-in-Err c =
-    let ask = c.ask-reply in
-    record { answer = answer-refused _ _ _ (lent (goal.at.returns-in-Err c).Start) _ ask.result ask.ensures.answer _ c.in-Err.is; forecast = ask.ensures.forecast; lent_left = ask.ensures.lent_left }
-
-pub returns-then-reply : goal.returns-then-reply
-returns-then-reply c =
-    let ask = c.ask-reply in
-    record { answer = answer-done _ _ _ (lent (goal.at.returns-then-reply c).Start) _ ask.result ask.ensures.answer true c.in_default.is c.if-reply.true; forecast = ask.ensures.forecast; lent_left = ask.ensures.lent_left }
 
 pub returns : goal.returns
 returns c =
     let ask = c.ask-reply in
-    record { answer = answer-done _ _ _ (lent (goal.at.returns c).Start) _ ask.result ask.ensures.answer false c.in_default.is c.if-reply.false; forecast = ask.ensures.forecast; lent_left = ask.ensures.lent_left }
+    record { answer = ap (λ (a : DeleteAnswer). delete_paper a) c.and.ensures ∙ delete-told _ _ _ _ _ ask.result.verdict _ _ ask.ensures.answer; forecast = ask.ensures.forecast; lent_left = ask.ensures.lent_left }

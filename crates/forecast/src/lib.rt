@@ -2,6 +2,7 @@
 #![tactic(auto)]
 
 ghost use Rattle.std.specs.Prelude.{◌≡◌, [], ◌∷◌, ◌+◌, ◌≤◌, ◌<◌, ◌==◌, length, take, get_or, position};
+ghost use Rattle.lists.specs.Lists.{without};
 ghost use Rattle.slots.specs.Segments.{Segments};
 ghost use Rattle.slots.specs.Keys.{Listed, segment_of};
 ghost use Rattle.cells.specs.Cells.{cell, zero_cell, weight};
@@ -137,14 +138,11 @@ impl Forecast {
         self
     }
 
-    // A deleted marker loses its cell, and the others close up.
-    pub fn drop_marker(mut self, marker: u64) -> Forecast
-        requires { Tidy self }
-        ensures { Became (dropped marker (used_cells self)) result }
+    // Cell `at` goes, and those after it close up.
+    fn close_up(&mut self, at: usize)
+        requires { Tidy self.old × (at < self.old.used) }
+        ensures { Became (without at (used_cells self.old)) self.new }
     {
-        let Some(at) = self.place_of(marker) else {
-            return self;
-        };
         let used = self.used;
         let tail = used - 1;
         self.segments.copy_within(at + 1..used, at);
@@ -154,6 +152,16 @@ impl Forecast {
         self.markers.copy_within(at + 1..used, at);
         self.markers[tail] = 0;
         self.used = tail;
+    }
+
+    // A deleted marker loses its cell.
+    pub fn drop_marker(mut self, marker: u64) -> Forecast
+        requires { Tidy self }
+        ensures { Became (dropped marker (used_cells self)) result }
+    {
+        if let Some(at) = self.place_of(marker) {
+            self.close_up(at);
+        }
         self
     }
 

@@ -1,14 +1,18 @@
--- `forecast::Forecast::drop_marker` meets its contract: the rows are those without the cell.
+-- `forecast::Forecast::drop_marker` meets its contract: the cell at the marker's place goes, or all stay.
+use mathlib.Core.Path.{refl}
 use native.Mathlib.Omega.{arith}
+use Rattle.cells.proofs.Laws.{dropped-is, dropped-none}
+use Rattle.forecast.specs.Cells.{used_cells}
 use Rattle.forecast.proofs.Placed.{cell-found, cell-missing}
-use Rattle.forecast.proofs.Forecast.drop_marker.Answers.Lemmas.{gone, kept}
+use Rattle.forecast.proofs.Stepping.{cells-used}
 use Rattle.forecast.proofs.Forecast.drop_marker.Goals as goal
-mod Lemmas
+
+pub returns-in-Some : goal.returns-in-Some
+returns-in-Some c =
+    let i = cell-found c.args.self c.requires _ _ c.place_of.ensures _ c.in-Some.is in
+    rw (dropped-is c.args.marker (used_cells c.args.self), ← i.0) c.close_up.ensures
 
 pub returns-in_default : goal.returns-in_default
-returns-in_default c = kept c.args.self c.requires c.args.marker (cell-missing c.args.self c.requires _ _ c.place_of.ensures c.in_default.is)
-
-pub returns : goal.returns
-returns c =
-    let i = cell-found c.args.self c.requires _ _ c.place_of.ensures _ c.in-Some.is in
-    rw (c.copy_within-3.ensures.after, c.copy_within.ensures.after, c.copy_within-2.ensures.after) (gone c.args.self c.requires c.args.marker _ i.0 i.1)
+returns-in_default c =
+    let h = cell-missing c.args.self c.requires _ _ c.place_of.ensures c.in_default.is in
+    rw (dropped-none c.args.marker (used_cells c.args.self) (omega (arith, cells-used c.args.self c.requires, h))) (record { tidy = c.requires; is = refl })

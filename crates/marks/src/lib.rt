@@ -43,11 +43,8 @@ fn place_of(list: &[u64], counts: &[usize], w: Window, s: usize, marker: u64) ->
     requires n_in_bounds { (64 * (w.first + w.n) ≤ length list.now) × (w.first + w.n ≤ length counts.now) × ((k : ℕ) → k < w.first + w.n → get_or counts.now k 0 ≤ 64) }
     ensures { (ss : Segments) → Asked list.now counts.now w ss → Mem marker (get_or ss s []) → result ≡ length (below marker (after w ss)) }
 {
-    let a = 64 * s;
-    let e = a + 64;
-    let held = counts[s];
-    let first = w.first;
-    let p = keys_in(counts, first, s) + position(&list[a..e], held, marker);
+    let part = &list[64 * s..64 * s + 64];
+    let p = keys_in(counts, w.first, s) + position(&part[..counts[s]], marker);
     if marker <= w.key {
         return p;
     }

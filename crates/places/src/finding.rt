@@ -1,5 +1,5 @@
 // Finding the segment of a key, and its place in the segment, by halving. Segments may be empty.
-ghost use Rattle.std.specs.Prelude.{◌≡◌, ◌+◌, ◌*◌, ◌/◌, ◌≤◌, ◌<◌, T, length, take};
+ghost use Rattle.std.specs.Prelude.{◌≡◌, ◌+◌, ◌*◌, ◌/◌, ◌≤◌, ◌<◌, T, length};
 ghost use Rattle.slots.specs.Segments.{Segments};
 ghost use Rattle.slots.specs.Keys.{Rising, below};
 ghost use Rattle.slots.specs.Shown.{Shows, seat, Located};
@@ -8,13 +8,12 @@ ghost use Rattle.slots.specs.Stretches.{Filled, Stands};
 use crate::counting::count_keys;
 use slots::Place;
 
-// How many of the first `n` slots, which rise, are below `key`.
-pub fn position(part: &[u64], n: usize, key: u64) -> usize
-    requires { n ≤ length part.now }
-    ensures range { result ≤ n }
-    ensures place { Rising (take n part.now) → result ≡ length (below key (take n part.now)) }
+// How many slots of a part, where they rise, are below `key`.
+pub fn position(part: &[u64], key: u64) -> usize
+    ensures range { result ≤ length part.now }
+    ensures place { Rising part.now → result ≡ length (below key part.now) }
 {
-    part[..n].partition_point(|x| *x < key)
+    part.partition_point(|x| *x < key)
 }
 
 // Of the segments from `a` to `mid`, the last that is not empty; `a` where all after it are empty.
@@ -66,7 +65,7 @@ pub fn locate(list: &[u64], key: u64) -> Place
     let segment = find_segment(list, key);
     let part = &list[64 * segment..64 * segment + 64];
     let held = count_keys(part);
-    let at = position(part, held, key);
+    let at = position(&part[..held], key);
     let present = at < held && part[at] == key;
     Place {
         segment,

@@ -1,5 +1,5 @@
 -- `place_of` tells where a marker will stand, by the counts before its segment and its place there.
-use Rattle.std.proofs.Common.{◌≡◌, ℕ, ◌+◌, ◌-◌, ◌*◌, ◌<◌, ◌≤◌, true, false, [], length, get_or, drop, arith, length-drop, length-take}
+use Rattle.std.proofs.Common.{◌≡◌, ℕ, ◌+◌, ◌-◌, ◌*◌, ◌<◌, ◌≤◌, true, false, [], length, get_or, take, drop, arith, length-drop, length-take}
 use mathlib.Core.List.{Memᴰ as Mem}
 use Rattle.slots.specs.Segments.{Segments}
 use Rattle.slots.specs.Keys.{below}
@@ -14,7 +14,14 @@ module _ (P : After-position) where
   b = P.keys_in.result
 
   few : b + P.position.result ≤ 4160
-  few = omega (arith, P.keys_in.ensures.range, P.position.ensures.range, P.requires.n_in_bounds.2 P.args.s (omega arith))
+  few =
+      omega (
+        arith,
+        P.keys_in.ensures.range,
+        P.position.ensures.range,
+        length-take (get_or P.args.counts.now P.args.s 0) (take (64 * P.args.s + 64 - 64 * P.args.s) (drop (64 * P.args.s) P.args.list.now)),
+        P.requires.n_in_bounds.2 P.args.s (omega arith),
+      )
 
   module _ (ss : Segments) (q : Asked P.args.list.now P.args.counts.now P.args.w ss) (m : Mem P.args.marker (get_or ss P.args.s [])) where
     same : P.args.marker ≤ P.args.w.key → b + P.position.result ≡ length (below P.args.marker (after P.args.w ss))

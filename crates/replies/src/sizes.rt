@@ -1,4 +1,5 @@
 // Whether what a C program lends has the sizes that a call lists, and the number given where it has not. Sizes are numbers of words.
+// Each test tells a bool, since each call for C gives the number at once: an error would be made and told in one line.
 ghost use Rattle.std.specs.Prelude.{ℕ, ◌≡◌, true, not, ◌||◌, List, eqb, ltb};
 ghost use Rattle.given.specs.Calls.{Given, sized};
 

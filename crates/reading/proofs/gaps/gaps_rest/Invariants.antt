@@ -5,4 +5,4 @@ use Rattle.slots.specs.Orders.{slot_at}
 use Rattle.reading.proofs.gaps.gaps_rest.Given as goal
 
 abbrev pub invariant-loop-i : goal.invariant-loop-i
-invariant-loop-i l = (l.a ≤ l.i) × (l.i ≤ l.e) × ((k : ℕ) → k < l.i → l.a ≤ k → slot_at l.list k ≡ 0)
+invariant-loop-i l = (k : ℕ) → l.a ≤ k → k < l.i → slot_at l.list k ≡ 0

@@ -1,6 +1,6 @@
 -- The table, where nothing was found before it: by the counts of the segments it is right, or refused by 14.
 use Rattle.std.proofs.Common.{Ok}
-use mathlib.Core.Path.{◌≡◌, refl, sym, ap, ◌∙◌}
+use mathlib.Core.Path.{◌≡◌, refl, sym, ◌∙◌}
 use mathlib.Core.Bool.{Bool, true, false}
 use mathlib.Core.List.{List, []}
 use Prim.Native.Nat.{ℕ, ◌/◌, ◌^◌, ◌≤◌, ◌<◌}
@@ -18,26 +18,21 @@ use Rattle.levels.proofs.Same.{same→eq}
 use Rattle.judging.specs.Answers.{Answers}
 use Rattle.forecast.specs.declared.Forecast.{Forecast}
 use Rattle.rules.specs.declared.Refusal.TheVariants.{WrongTable}
-use Rattle.rules.specs.Refusals.{verdict_number}
+use Rattle.rules.specs.Refusals.{refusal_number}
 use Rattle.rules.specs.Lent.{Lent, lend, right_table}
-use Rattle.rules.specs.Checks.{check_cards, then_forecast, then_table, check_read, check, check_list}
+use Rattle.rules.specs.Checks.{check_cards, then_forecast, then_table, check_list}
 use Rattle.demands.proofs.Requests.Checked.{Passed, passed, proper-segments, forecast-passed}
 use Rattle.demands.proofs.Requests.CardsChecked.{cards-tested}
 use Rattle.demands.proofs.Requests.Tabled.{table-wrong, table-passes}
 use Rattle.checks.specs.declared.Listing.{Listing}
-use Rattle.checks.specs.Listings.{refusing, Looked, ReadLooked, LentLooked, Counting}
-use Rattle.checks.proofs.Numbers.{looked-refused}
-
--- the same listing tells another number
-pub renumbered : {profile : ℕ} {slots : List ℕ} {m : ℕ} {r : Listing} (n : ℕ) → m ≡ n → Looked profile slots m r → Looked profile slots n r
-renumbered n e look = record { number = look.number ∙ e; named = look.named; height = look.height; shape = look.shape; keys = look.keys }
+use Rattle.checks.specs.Listings.{Looked, Counting}
 
 module _
-    (profile : ℕ) (slots table : List ℕ) (m n : ℕ) (r : Listing) (counts : List ℕ) (look : Looked profile slots m r) (list : m ≡ 0 → check_list profile slots ≡ 0) (e : n ≡ length slots / 64)
-    (counting : Counting slots r counts) (a : r.verdict ≡ Ok tt)
+    (profile : ℕ) (slots table : List ℕ) (m n : ℕ) (l : Listing) (counts : List ℕ) (look : Looked profile slots m (Ok l)) (list : m ≡ 0 → check_list profile slots ≡ 0) (e : n ≡ length slots / 64)
+    (counting : Counting slots (Ok l) counts)
   where
     none : m ≡ 0
-    none = sym look.number ∙ ap verdict_number a
+    none = sym look.0
 
     p : Passed profile slots
     p = passed profile slots (list none)
@@ -56,21 +51,21 @@ module _
           omega (arith, size, pow_pos (height_of (length slots))),
           omega (arith, size, most),
           omega (arith, size, most, counting.long),
-          λ k h. let l : k < length (segments_of slots) = omega (arith, many) in
-              omega (arith, counting.each a k l, sizes-segments slots (2 ^ height_of (length slots)) p.number (get_or (segments_of slots) k []) (at_mem (segments_of slots) k [] l)),
+          λ k h. let q : k < length (segments_of slots) = omega (arith, many) in
+              omega (arith, counting.each k q, sizes-segments slots (2 ^ height_of (length slots)) p.number (get_or (segments_of slots) k []) (at_mem (segments_of slots) k [] q)),
         )
 
     -- what it tells, whatever the cards
     module _ (cards : List ℕ) (b : Bool) (tells : (h : ℕ) (ss : Segments) → n ≡ 2 ^ h → length ss ≡ n → CountsOf ss counts → Answers (table ≡ table_of h ss) b) where
       answers : Answers (table ≡ right_table slots) b
-      answers = tells (height_of (length slots)) (segments_of slots) size many (counting.each a)
+      answers = tells (height_of (length slots)) (segments_of slots) size many counting.each
 
-      pub right-looked : b ≡ true → Looked profile slots (then_table m (lend slots cards table)) r
-      right-looked t = renumbered (then_table m (lend slots cards table)) (none ∙ sym (table-passes m (lend slots cards table) none (answers.yes (rw t tt)))) look
+      pub right-looked : b ≡ true → Looked profile slots (then_table m (lend slots cards table)) (Ok l)
+      right-looked t = (sym (table-passes m (lend slots cards table) none (answers.yes (rw t tt))), look.1)
 
-      pub wrong-looked : b ≡ false → (w : Listing) → w ≡ refusing WrongTable → Looked profile slots (then_table m (lend slots cards table)) w
-      wrong-looked f w q =
-          looked-refused profile slots WrongTable w q (then_table m (lend slots cards table))
+      pub wrong-looked : b ≡ false → refusal_number WrongTable ≡ then_table m (lend slots cards table)
+      wrong-looked f =
+          sym
           (table-wrong m (lend slots cards table) none (differ (same table (right_table slots)) (same→eq table (right_table slots))))
         where
           differ : (c : Bool) → (T c → table ≡ right_table slots) → c ≡ false
@@ -82,14 +77,5 @@ module _ (profile : ℕ) (L : Lent) where
   pub cards-list : check_cards profile L ≡ 0 → check_list profile L.slots ≡ 0
   cards-list e = (cards-tested profile L e).0
 
-  pub read-looked : (r : Listing) → Looked profile L.slots (then_table (check_cards profile L) L) r → ReadLooked profile L r
-  unfolding check_read
-  read-looked r look = look
-
-  module _ (F : Forecast) where
-    pub both-list : then_forecast (check_cards profile L) profile L.slots F ≡ 0 → check_list profile L.slots ≡ 0
-    both-list e = cards-list (forecast-passed (check_cards profile L) profile L.slots F e).0
-
-    pub lent-looked : (r : Listing) → Looked profile L.slots (then_table (then_forecast (check_cards profile L) profile L.slots F) L) r → LentLooked profile L F r
-    unfolding check
-    lent-looked r look = look
+  pub both-list : (F : Forecast) → then_forecast (check_cards profile L) profile L.slots F ≡ 0 → check_list profile L.slots ≡ 0
+  both-list F e = cards-list (forecast-passed (check_cards profile L) profile L.slots F e).0

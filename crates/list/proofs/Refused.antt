@@ -1,4 +1,4 @@
--- Where the check refuses what is lent, a lookup and a scan tell the number, and leave the outputs as they were.
+-- Where the check refuses what is lent, check, lookup and scan tell the number, and leave the outputs as they were.
 use mathlib.Core.Path.{◌≡◌, sym, ap, ◌∙◌, subst}
 use Prim.Native.Nat.{ℕ}
 use mathlib.Core.List.{List}
@@ -6,20 +6,25 @@ use native.Mathlib.Omega.{arith}
 use Rattle.std.specs.Prelude.{Err, IsErrAnd}
 use Rattle.std.proofs.lemmas.Result.{err_from_is_err_and}
 use Rattle.rules.specs.declared.Refusal.{Refusal}
-use Rattle.rules.specs.Refusals.{refusal_number, Verdict, verdict_number}
+use Rattle.rules.specs.Refusals.{refusal_number}
 use Rattle.rules.specs.Lent.{Lent}
 use Rattle.rules.specs.Checks.{check_read}
 use Rattle.rules.specs.Looking.{not_found}
 use Rattle.demands.proofs.Refusals.CheckCases.{lookup_refused}
 use Rattle.demands.proofs.Refusals.Told.{refusal-some}
-use Rattle.answers.specs.Answers.{LookupAnswer, ScanAnswer}
+use Rattle.answers.specs.Answers.{CheckAnswer, check_number, LookupAnswer, ScanAnswer}
 use Rattle.answers.specs.Admits.{LookupAdmits, ScanAdmits}
 use Rattle.answers.proofs.Replies.{refused-admits}
 
 -- x is the refusal that `?` hands on as r
-module _ (profile : ℕ) (L : Lent) (v : Verdict) (x : Refusal) (number : verdict_number v ≡ check_read profile L) (is : v ≡ Err x) where
+pub check-told : (n : ℕ) (x : Refusal) (number : refusal_number x ≡ n) (r : CheckAnswer) → IsErrAnd r (λ (z : Refusal). z ≡ x) → check_number r ≡ n
+check-told n x number r k =
+    let told = err_from_is_err_and r k in
+    ap check_number (told.1 ∙ ap (λ (z : Refusal). Err z) told.2) ∙ number
+
+module _ (profile : ℕ) (L : Lent) (x : Refusal) (number : refusal_number x ≡ check_read profile L) where
   read : check_read profile L ≡ refusal_number x
-  read = sym number ∙ ap verdict_number is
+  read = sym number
 
   pub lookup-told : (y : ℕ) (r : LookupAnswer) → IsErrAnd r (λ (z : Refusal). z ≡ x) → LookupAdmits profile L y r
   lookup-told y r k =

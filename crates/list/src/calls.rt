@@ -22,14 +22,15 @@ pub fn check(
 ) -> CheckAnswer
     ensures { CheckAdmits profile (lend list.now cards.now table.now) forecast result }
 {
-    checks::look_lent(profile, list, cards, table, forecast).verdict
+    checks::look_lent(profile, list, cards, table, forecast)?;
+    Ok(())
 }
 
 // Whether a key is live, where, and its card.
 pub fn lookup(profile: u64, list: &[u64], cards: &[u32], table: &[usize], key: u64) -> LookupAnswer
     ensures { LookupAdmits profile (lend list.now cards.now table.now) key result }
 {
-    checks::look_read(profile, list, cards, table).verdict?;
+    checks::look_read(profile, list, cards, table)?;
     looks::look_up(list, cards, table, key)
 }
 
@@ -45,6 +46,6 @@ pub fn scan(
 ) -> ScanAnswer
     ensures { ScanAdmits profile (lend list.now cards.now table.now) from output.old output_cards.old result output.new output_cards.new }
 {
-    checks::look_read(profile, list, cards, table).verdict?;
+    checks::look_read(profile, list, cards, table)?;
     looks::scan_from(list, cards, table, from, output, output_cards)
 }

@@ -16,9 +16,9 @@ fn clear(profile: u64, list: &mut [u64], cards: &mut [u32], table: &mut [usize])
 {
     Profile::try_from(profile)?;
     let n = list.len();
-    if places::heights::height_of(n) == 0 {
+    let Some(_) = places::heights::height_of(n) else {
         return Err(Refusal::WrongLength);
-    }
+    };
     if cards.len() != n {
         return Err(Refusal::WrongCards);
     }

@@ -10,7 +10,6 @@ use Rattle.slots.specs.Shown.{Shows}
 use Rattle.seats.specs.Bounds.{bounds_of, Indexed}
 use Rattle.seats.proofs.Indexes.{indexed-start}
 use Rattle.forecast.specs.declared.Forecast.{Forecast}
-use Rattle.rules.specs.Refusals.{verdict_number}
 use Rattle.rules.specs.Profiles.{number_of}
 use Rattle.rules.specs.Cards.{cards_beside}
 use Rattle.rules.specs.Lent.{Lent, cards_of}
@@ -24,23 +23,23 @@ use Rattle.steps.specs.declared.Worked.{Worked}
 use Rattle.steps.specs.Works.{Ends}
 use Rattle.aims.proofs.Standing.{shows-stands}
 
-module _ (profile : ℕ) (L : Lent) (F : Forecast) (r : Listing) (look : LentLooked profile L F r) (a : r.verdict ≡ Ok tt) where
+module _ (profile : ℕ) (L : Lent) (F : Forecast) (r : Listing) (look : LentLooked profile L F (Ok r)) where
   pub ready-passes : check profile L F ≡ 0
-  ready-passes = sym look.number ∙ ap verdict_number a
+  ready-passes = sym look.0
 
   pub ready-stands : Stands L.slots F r.shape r.keys
   ready-stands = record {
-    passes = ap (λ (n : ℕ). check_both n L.slots F) (look.named a) ∙ room-passes profile L F ready-passes;
-    height = sym (look.height a);
-    shape = look.shape a;
-    many = sym (look.keys a);
+    passes = ap (λ (n : ℕ). check_both n L.slots F) look.1.named ∙ room-passes profile L F ready-passes;
+    height = sym look.1.height;
+    shape = look.1.shape;
+    many = sym look.1.keys;
   }
 
   -- what the records come to in the profile of the shape, they come to in the one that is named
   pub ready-ends : {bytes : List ℕ} {allowance : ℕ} {w : Worked} {left : Lent} → Ends (number_of r.shape.profile) L.slots (cards_of L) F bytes allowance w left
       → Ends profile L.slots (cards_of L) F bytes allowance w left
   ready-ends {bytes = bytes} {allowance = allowance} {w = w} {left = left} =
-      subst (λ (n : ℕ). Ends n L.slots (cards_of L) F bytes allowance w left) (look.named a)
+      subst (λ (n : ℕ). Ends n L.slots (cards_of L) F bytes allowance w left) look.1.named
 
   -- with what `bound` leaves
   pub ready-index : (bounds : List ℕ) → ((ss : Segments) → Shows ss L.slots → bounds ≡ bounds_of ss) → Indexed (segments_of L.slots) L.slots bounds L.table

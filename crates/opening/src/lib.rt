@@ -20,32 +20,30 @@ pub fn work_lent(
 ) -> Worked
     ensures { Opens profile (lend list.old cards.old table.old) forecast requests.now allowance result (lend list.new cards.new table.new) }
 {
-    let listing = checks::look_lent(profile, list, cards, table, forecast);
-    let verdict = listing.verdict;
-    if let Err(_) = verdict {
-        return Worked {
+    match checks::look_lent(profile, list, cards, table, forecast) {
+        Err(refusal) => Worked {
             forecast,
             tally: tallies::none(),
-            stop: verdict,
-            last: verdict,
+            stop: Err(refusal),
+            last: Err(refusal),
             keys: 0,
-        };
+        },
+        Ok(listing) => {
+            let mut bounds: [u64; 64] = [u64::MAX; 64];
+            bounding::bound(list, &mut bounds);
+            let mut plan: [usize; 64] = [0; 64];
+            steps::working::work(
+                list,
+                cards,
+                table,
+                &mut bounds,
+                &mut plan,
+                forecast,
+                listing.shape,
+                listing.keys,
+                requests,
+                allowance,
+            )
+        }
     }
-    let shape = listing.shape;
-    let keys = listing.keys;
-    let mut bounds: [u64; 64] = [18446744073709551615; 64];
-    bounding::bound(list, &mut bounds);
-    let mut plan: [usize; 64] = [0; 64];
-    steps::working::work(
-        list,
-        cards,
-        table,
-        &mut bounds,
-        &mut plan,
-        forecast,
-        shape,
-        keys,
-        requests,
-        allowance,
-    )
 }

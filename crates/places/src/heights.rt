@@ -1,28 +1,18 @@
 // The height of a list, by the number of its slots.
-ghost use Rattle.std.specs.Prelude.{◌≡◌, ◌≤◌};
+ghost use Rattle.std.specs.Prelude.{◌≡◌, ◌≤◌, MatchOption};
 ghost use Rattle.slots.specs.Segments.{height_of};
 
-// The height of a list of `n` slots, or 0 where they are no list.
-pub fn height_of(n: usize) -> usize
-    ensures { (result ≡ height_of n) × (result ≤ 6) }
+// The height of a list of `n` slots; none where they are no list.
+pub fn height_of(n: usize) -> Option<usize>
+    ensures { MatchOption result (height_of n ≡ 0) (λ h. (h ≡ height_of n) × (1 ≤ h) × (h ≤ 6)) }
 {
-    if n == 128 {
-        return 1;
+    match n {
+        128 => Some(1),
+        256 => Some(2),
+        512 => Some(3),
+        1024 => Some(4),
+        2048 => Some(5),
+        4096 => Some(6),
+        _ => None,
     }
-    if n == 256 {
-        return 2;
-    }
-    if n == 512 {
-        return 3;
-    }
-    if n == 1024 {
-        return 4;
-    }
-    if n == 2048 {
-        return 5;
-    }
-    if n == 4096 {
-        return 6;
-    }
-    0
 }

@@ -1,6 +1,5 @@
 -- Rows of shares, as the code reads them.
-use Rattle.std.specs.Prelude.{ℕ, ◌≤◌, ◌<◌, ◌≡◌, List, length, replicate, get_or}
-use Rattle.rules.specs.declared.Profile.TheVariants.{First}
+use Rattle.std.specs.Prelude.{ℕ, ◌≤◌, ◌<◌, ◌≡◌, List, length, get_or}
 use Rattle.rules.specs.Shares.{Shares, shares, capacity, sparse_below, cells_of}
 use Rattle.shares.specs.declared.Shape.{Shape}
 
@@ -27,7 +26,3 @@ pub record Fetched (S : Shares) (k : Shape) : Type 0 where
   pub high : k.high ≡ S.high 0
   pub low : k.low ≡ S.low 0
   pub rows : Rows S k.levels.lows k.levels.highs
-
--- The shape of no list.
-abbrev pub blank_shape : Shape
-blank_shape = record { height = 0; cells = 0; capacity = 0; floor = 0; high = 0; low = 0; levels = record { highs = replicate 7 0; lows = replicate 7 0 }; profile = First }

@@ -2,9 +2,8 @@
 #![tactic(auto)]
 
 ghost use Rattle.std.specs.Prelude.{◌≡◌, ◌≤◌, ◌*◌, ◌^◌, get_or};
-ghost use Rattle.rules.specs.Profiles.{is_profile, profile_of};
 ghost use Rattle.rules.specs.Shares.{shares};
-ghost use Rattle.shares.specs.Rows.{Rows, blank_shape, Fetched};
+ghost use Rattle.shares.specs.Rows.{Rows, Fetched};
 
 use rules::Profile;
 
@@ -78,25 +77,6 @@ pub fn power(l: usize) -> usize
     1 << l
 }
 
-// Whether a number names a profile; and the profile that it names.
-pub fn is_profile(n: u64) -> bool
-    ensures { result ≡ is_profile n }
-{
-    if n == 1 {
-        return true;
-    }
-    n == 2
-}
-
-pub fn profile_of(n: u64) -> Profile
-    ensures { result ≡ profile_of n }
-{
-    if n == 2 {
-        return Profile::Second;
-    }
-    Profile::First
-}
-
 // All that a list keeps to, fetched once for a call: its number of cells, the most keys that it holds, the number of keys under which it is
 // sparse, a segment's high and low, the shares by level, and the profile that all of them are of.
 #[derive(Clone, Copy, PartialEq, Eq, Debug)]
@@ -109,25 +89,6 @@ pub struct Shape {
     pub low: usize,
     pub levels: LevelShares,
     pub profile: Profile,
-}
-
-// The shape of no list.
-pub fn blank() -> Shape
-    ensures { result ≡ blank_shape }
-{
-    Shape {
-        height: 0,
-        cells: 0,
-        capacity: 0,
-        floor: 0,
-        high: 0,
-        low: 0,
-        levels: LevelShares {
-            highs: [0; 7],
-            lows: [0; 7],
-        },
-        profile: Profile::First,
-    }
 }
 
 // The shares of a height.

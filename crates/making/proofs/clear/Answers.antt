@@ -50,29 +50,29 @@ returns-in_err-try_from c =
     (make-unknown _ _ unknown.0
     ∙ ap (λ (v : MakeAnswer). record { lent = L; forecast = forecast_of []; number = make_number v }) (sym (told.1 ∙ ap (λ (x : Refusal). Err x) (told.2 ∙ unknown.1))))
 
-pub returns-then-height_of-eq0 : goal.returns-then-height_of-eq0
-returns-then-height_of-eq0 c = admits _ _ _ _ (make_refused _ _ c.in_ok-try_from.ensures.0 (sym c.height_of.ensures.0 ∙ c.if-height_of-eq0.true))
+pub returns-in_default : goal.returns-in_default
+returns-in_default c = admits _ _ _ _ (make_refused _ _ c.in_ok-try_from.ensures.0 c.in_default.ensures)
 
 -- a list of a height that is told
-high : (h n : ℕ) → h ≡ height_of n → h ≢ 0 → height_of n ≢ 0
-high h n e k z = k (e ∙ z)
+high : (h n : ℕ) → h ≡ height_of n → 1 ≤ h → height_of n ≢ 0
+high h n e k z = omega arith
 
 pub returns-then-cards-n : goal.returns-then-cards-n
-returns-then-cards-n c = admits _ _ _ _ (make-wrong-cards _ _ c.in_ok-try_from.ensures.0 (high _ _ c.height_of.ensures.0 c.if-height_of-eq0.false) c.if-cards-n.true)
+returns-then-cards-n c = admits _ _ _ _ (make-wrong-cards _ _ c.in_ok-try_from.ensures.0 (high _ _ c.in-Some.ensures.0 c.in-Some.ensures.1.0) c.if-cards-n.true)
 
 pub overflow_sub-n : goal.overflow_sub-n
-overflow_sub-n c = (size _ (high _ _ c.height_of.ensures.0 c.if-height_of-eq0.false)).0
+overflow_sub-n c = (size _ (high _ _ c.in-Some.ensures.0 c.in-Some.ensures.1.0)).0
 
 pub returns-then-entries-n : goal.returns-then-entries-n
 returns-then-entries-n c =
-    let tall = high _ _ c.height_of.ensures.0 c.if-height_of-eq0.false in
+    let tall = high _ _ c.in-Some.ensures.0 c.in-Some.ensures.1.0 in
     admits _ _ _ _ (make-wrong-table _ _ c.in_ok-try_from.ensures.0 tall c.if-cards-n.false (λ e. c.if-entries-n.true (e ∙ sym (size _ tall).1)))
 
 pub returns : goal.returns
 returns c =
     let a = c.args in
     let L : Lent = lend a.list.now a.cards.now a.table.now in
-    let tall = high _ _ c.height_of.ensures.0 c.if-height_of-eq0.false in
+    let tall = high _ _ c.in-Some.ensures.0 c.in-Some.ensures.1.0 in
     let both = c.clear.ensures in
     let slots = both.slots ∙ all-cleared L.slots in
     let cards = both.cards ∙ ap (λ (n : ℕ). cleared 0 n 0 L.cards) (sym c.if-cards-n.false) ∙ all-cleared L.cards in

@@ -1,34 +1,34 @@
 -- `places::heights::height_of` meets its contract: each number is told apart as the definition does it.
 use native.Mathlib.Omega.{arith}
-use borrow.Author.Tests.{ne_eqb}
+use Rattle.std.proofs.Common.{rules}
+use borrow.Author.Tests.{tests}
 use Rattle.slots.specs.Segments.{height_of}
 use Rattle.places.proofs.heights.height_of.Goals as goal
 
-pub returns-then-n-eq128 : goal.returns-then-n-eq128
+pub returns-in-128 : goal.returns-in-128
 unfolding height_of
-returns-then-n-eq128 c = (rw c.if-n-eq128.true, omega arith)
+returns-in-128 c = (rw c.in-128.is, omega arith, omega arith)
 
-pub returns-then-n-eq256 : goal.returns-then-n-eq256
+pub returns-in-256 : goal.returns-in-256
 unfolding height_of
-returns-then-n-eq256 c = (rw c.if-n-eq256.true, omega arith)
+returns-in-256 c = (rw c.in-256.is, omega arith, omega arith)
 
-pub returns-then-n-eq512 : goal.returns-then-n-eq512
+pub returns-in-512 : goal.returns-in-512
 unfolding height_of
-returns-then-n-eq512 c = (rw c.if-n-eq512.true, omega arith)
+returns-in-512 c = (rw c.in-512.is, omega arith, omega arith)
 
-pub returns-then-n-eq1024 : goal.returns-then-n-eq1024
+pub returns-in-1024 : goal.returns-in-1024
 unfolding height_of
-returns-then-n-eq1024 c = (rw c.if-n-eq1024.true, omega arith)
+returns-in-1024 c = (rw c.in-1024.is, omega arith, omega arith)
 
-pub returns-then-n-eq2048 : goal.returns-then-n-eq2048
+pub returns-in-2048 : goal.returns-in-2048
 unfolding height_of
-returns-then-n-eq2048 c = (rw c.if-n-eq2048.true, omega arith)
+returns-in-2048 c = (rw c.in-2048.is, omega arith, omega arith)
 
-pub returns-then-n-eq4096 : goal.returns-then-n-eq4096
+pub returns-in-4096 : goal.returns-in-4096
 unfolding height_of
-returns-then-n-eq4096 c = (rw c.if-n-eq4096.true, omega arith)
+returns-in-4096 c = (rw c.in-4096.is, omega arith, omega arith)
 
-pub returns : goal.returns
+pub returns-in_default : goal.returns-in_default
 unfolding height_of
-returns c =
-    (simp (ne_eqb _ _ c.if-n-eq128.false, ne_eqb _ _ c.if-n-eq256.false, ne_eqb _ _ c.if-n-eq512.false, ne_eqb _ _ c.if-n-eq1024.false, ne_eqb _ _ c.if-n-eq2048.false, ne_eqb _ _ c.if-n-eq4096.false), omega arith)
+returns-in_default c = search (tests, rules)

@@ -58,21 +58,21 @@ high : (h n : ℕ) → h ≡ height_of n → 1 ≤ h → height_of n ≢ 0
 high h n e k z = omega arith
 
 pub returns-then-cards-n : goal.returns-then-cards-n
-returns-then-cards-n c = admits _ _ _ _ (make-wrong-cards _ _ c.in_ok-try_from.ensures.0 (high _ _ c.in-Some.ensures.0 c.in-Some.ensures.1.0) c.if-cards-n.true)
+returns-then-cards-n c = admits _ _ _ _ (make-wrong-cards _ _ c.in_ok-try_from.ensures.0 (high _ _ c.in-Some.ensures.0 c.in-Some.ensures.1) c.if-cards-n.true)
 
 pub overflow_sub-n : goal.overflow_sub-n
-overflow_sub-n c = (size _ (high _ _ c.in-Some.ensures.0 c.in-Some.ensures.1.0)).0
+overflow_sub-n c = (size _ (high _ _ c.in-Some.ensures.0 c.in-Some.ensures.1)).0
 
 pub returns-then-entries-n : goal.returns-then-entries-n
 returns-then-entries-n c =
-    let tall = high _ _ c.in-Some.ensures.0 c.in-Some.ensures.1.0 in
+    let tall = high _ _ c.in-Some.ensures.0 c.in-Some.ensures.1 in
     admits _ _ _ _ (make-wrong-table _ _ c.in_ok-try_from.ensures.0 tall c.if-cards-n.false (λ e. c.if-entries-n.true (e ∙ sym (size _ tall).1)))
 
 pub returns : goal.returns
 returns c =
     let a = c.args in
     let L : Lent = lend a.list.now a.cards.now a.table.now in
-    let tall = high _ _ c.in-Some.ensures.0 c.in-Some.ensures.1.0 in
+    let tall = high _ _ c.in-Some.ensures.0 c.in-Some.ensures.1 in
     let both = c.clear.ensures in
     let slots = both.slots ∙ all-cleared L.slots in
     let cards = both.cards ∙ ap (λ (n : ℕ). cleared 0 n 0 L.cards) (sym c.if-cards-n.false) ∙ all-cleared L.cards in

@@ -1,5 +1,5 @@
 -- Keys or cards written into a lent output, stretch by stretch: what is known between two stretches, and where the writing ends.
-use mathlib.Core.Path.{◌≡◌, refl, sym, ap, ap₂, ◌∙◌}
+use mathlib.Core.Path.{◌≡◌, sym, ap, ap₂, ◌∙◌}
 use mathlib.Core.Bool.{Bool, true, false}
 use mathlib.Core.List.{List, [], ◌++◌, map, map-append}
 use Prim.Native.Nat.{ℕ, min, ◌+◌, ◌≤◌, ◌<◌}
@@ -19,10 +19,6 @@ pub record Halfway (ks out left : List ℕ) (w : ℕ) (stretch later : List ℕ)
   pub few : w ≤ length ks
   pub rest : drop w ks ≡ stretch ++ later
   pub output : left ≡ take w ks ++ drop w out
-
--- before the first key
-pub halfway-none : (ks out stretch later : List ℕ) → ks ≡ stretch ++ later → Halfway ks out out 0 stretch later
-halfway-none ks out stretch later e = record { few = omega arith; rest = e; output = refl }
 
 -- the later keys begin with a stretch
 pub halfway-later : {ks out left later : List ℕ} {w : ℕ} → Halfway ks out left w [] later → (stretch rest : List ℕ) → later ≡ stretch ++ rest → Halfway ks out left w stretch rest

@@ -2,12 +2,8 @@
 use Prim.Native.Nat.{◌+◌, ◌*◌}
 use mathlib.Core.Path.{◌≡◌}
 use native.Mathlib.Omega.{arith}
-use Rattle.moves.proofs.Moving.{left-none}
 use Rattle.moves.proofs.Fours.{left-turn, left-laid}
 use Rattle.moves.proofs.move_left.Goals as goal
-
-pub loop-k-init : goal.loop-k-init
-loop-k-init c = let a = c.args in (left-none _ a.from a.to, left-none _ a.from a.to)
 
 pub loop-k-preserved : goal.loop-k-preserved
 loop-k-preserved c =

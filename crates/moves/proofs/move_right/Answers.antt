@@ -2,13 +2,9 @@
 use Prim.Native.Nat.{◌+◌, ◌-◌}
 use mathlib.Core.Path.{◌≡◌, ◌∙◌}
 use native.Mathlib.Omega.{arith}
-use Rattle.moves.proofs.Moving.{right-none}
 use Rattle.moves.proofs.Fours.{right-turn, right-laid}
 use Rattle.moves.proofs.move_right.Goals as goal
 use Rattle.moves.proofs.move_right.Goals.{else-loop-i-test, then-loop-i-test+else-e-i-gt4}
-
-pub loop-i-init : goal.loop-i-init
-loop-i-init c = let a = c.args in (omega arith, right-none _ a.from a.to a.count _ (omega arith), right-none _ a.from a.to a.count _ (omega arith))
 
 pub loop-i-preserved : goal.loop-i-preserved
 loop-i-preserved c =

@@ -1,76 +1,39 @@
 -- `sow` meets its contract: the keys packed, then dealt out with the key put in, or without it, each with its card.
 use native.Mathlib.Omega.{arith}
-use Rattle.moves.specs.Moves.{Packed}
 use Rattle.gaps.proofs.Natural.{closed-kept}
-use Rattle.sowing.specs.Sown.{Planted}
 use Rattle.sowing.proofs.Sown.{sized, counts-fit, room, keys-few, up_to, put_in, among, taken_out}
 use Rattle.sowing.proofs.sow.Goals as goal
-use Rattle.sowing.proofs.sow.Goals.{After-pack-m, Start}
 
--- what is given at the entry
-abbrev given : (s : Start) → Planted s.args.window.now s.args.counts.now s.args.plan.now s.args.p s.args.key s.args.grows
-given s = s.requires.planted
+pub pack-m-requires-clause-window_len : goal.pack-m-requires-clause-window_len
+pack-m-requires-clause-window_len c = sized c.requires.planted
 
--- once the keys are packed
-module _ (c : After-pack-m) where
-  abbrev packed : Packed c.args.counts.now c.args.window.now c.pack-m.result c.pack-m.new.window
-  packed = c.pack-m.ensures.keys
-
-pub pack-m-requires : goal.pack-m-requires
-pack-m-requires c = let d = given (goal.at.pack-m-requires c).Start in record {
-  window_len = sized d;
-  by_index = counts-fit d;
-  cards_len = c.requires.cards_len;
-}
+pub pack-m-requires-clause-by_index : goal.pack-m-requires-clause-by_index
+pack-m-requires-clause-by_index c = counts-fit c.requires.planted
 
 pub overflow_add-m : goal.overflow_add-m
-overflow_add-m c = omega (arith, (packed (goal.at.overflow_add-m c).After-pack-m).many, keys-few (given (goal.at.overflow_add-m c).Start))
+overflow_add-m c = omega (arith, keys-few c.requires.planted)
 
-pub spread-requires : goal.spread-requires
-spread-requires c =
-    let d = given (goal.at.spread-requires c).Start in
-    let p = packed (goal.at.spread-requires c).After-pack-m in
-    record {
-      window_len = omega (arith, sized d, d.long);
-      by_index = d.fits;
-      counts_value = (omega (arith, p.many, (d.grown c.if-grows.true).0), omega (arith, up_to d p));
-      cards_len = omega arith;
-    }
+pub spread-requires-clause-window_len : goal.spread-requires-clause-window_len
+spread-requires-clause-window_len c = omega (arith, sized c.requires.planted)
 
-pub returns-then-grows : goal.returns-then-grows
-returns-then-grows c =
-    let grows = c.if-grows.true in
-    let spreads = c.spread.ensures in
-    record {
-      keys = put_in (given (goal.at.returns-then-grows c).Start) (packed (goal.at.returns-then-grows c).After-pack-m) grows spreads.keys;
-      cards = λ f z y h. spreads.cards f z (y grows) (c.pack-m.ensures.cards f h);
-    }
+pub spread-requires-clause-counts_value : goal.spread-requires-clause-counts_value
+spread-requires-clause-counts_value c =
+    let d = c.requires.planted in (omega (arith, (d.grown c.if-grows.true).0), up_to d c.pack-m.ensures.keys)
 
-pub close_gap-requires : goal.close_gap-requires
-close_gap-requires c =
-    let d = given (goal.at.close_gap-requires c).Start in
-    record {
-      at_lt_n = (among d (packed (goal.at.close_gap-requires c).After-pack-m) c.if-grows.false, omega (arith, (packed (goal.at.close_gap-requires c).After-pack-m).many, room d));
-      cards_len = omega arith;
-    }
+pub returns-then-grows-clause-keys : goal.returns-then-grows-clause-keys
+returns-then-grows-clause-keys c = put_in c.requires.planted c.pack-m.ensures.keys c.if-grows.true c.spread.ensures.keys
 
-pub overflow_sub-m : goal.overflow_sub-m
-overflow_sub-m c = omega (arith, among (given (goal.at.overflow_sub-m c).Start) (packed (goal.at.overflow_sub-m c).After-pack-m) c.if-grows.false)
+pub close_gap-requires-clause-at_lt_n : goal.close_gap-requires-clause-at_lt_n
+close_gap-requires-clause-at_lt_n c =
+    let d = c.requires.planted in (among d c.pack-m.ensures.keys c.if-grows.false, omega (arith, room d))
 
-pub spread-requires-2 : goal.spread-requires-2
-spread-requires-2 c =
-    let d = given (goal.at.spread-requires-2 c).Start in
-    record {
-      window_len = omega (arith, sized d, d.long);
-      by_index = d.fits;
-      counts_value = (omega (arith, (packed (goal.at.spread-requires-2 c).After-pack-m).many, (d.shrunk c.if-grows.false).0), tt);
-      cards_len = omega arith;
-    }
+pub spread-requires-2-clause-window_len : goal.spread-requires-2-clause-window_len
+spread-requires-2-clause-window_len c = omega (arith, sized c.requires.planted)
 
-pub returns : goal.returns
-returns c =
+pub returns-clause-keys : goal.returns-clause-keys
+returns-clause-keys c = taken_out c.requires.planted c.pack-m.ensures.keys c.if-grows.false c.close_gap.ensures.slots c.spread-2.ensures.keys
+
+pub returns-clause-cards : goal.returns-clause-cards
+returns-clause-cards c = λ f z y h.
     let closes = c.close_gap.ensures in
-    let spreads = c.spread-2.ensures in record {
-      keys = taken_out (given (goal.at.returns c).Start) (packed (goal.at.returns c).After-pack-m) c.if-grows.false closes.slots spreads.keys;
-      cards = λ f z y h. spreads.cards f z tt (closed-kept f _ (c.pack-m.ensures.cards f h) c.pack-m.result c.args.p 0 0 z closes.slots closes.cards);
-    }
+    c.spread-2.ensures.cards f z tt (closed-kept f _ (c.pack-m.ensures.cards f h) c.pack-m.result c.args.p 0 0 z closes.slots closes.cards)

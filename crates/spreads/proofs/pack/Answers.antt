@@ -1,12 +1,9 @@
 -- pack meets its contract. Invariant: the keys of the first s segments stand in front, all slots after them are as they were, and each has its card.
-use mathlib.Core.Path.{◌≡◌, refl, ap, ◌∙◌}
-use Prim.Native.Nat.{ℕ, ◌*◌, ◌≤◌, ◌<◌}
+use mathlib.Core.Path.{refl}
+use Prim.Native.Nat.{◌*◌, ◌≤◌, ◌<◌}
 use native.Mathlib.Numerals.{add-one}
 use native.Mathlib.Omega.{arith}
-use mathlib.Core.List.{List, ◌++◌}
-use lib.ListN.{length, get_or, take, drop}
-use lib.Seq.{take-length}
-use Rattle.lists.specs.Lists.{total}
+use lib.ListN.{length, get_or}
 use Rattle.lists.proofs.Joined.{total-suc}
 use Rattle.moves.specs.Moves.{gather}
 use Rattle.gaps.proofs.Natural.{moved-kept}
@@ -33,15 +30,3 @@ loop-s-preserved c =
       pack-step cs l loop.window _ loop.s loop.at h inv.0 inv.2 inv.3 moves.slots,
       λ f k. moved-kept f loop.window (inv.4 f k) (64 * loop.s) loop.at (get_or cs loop.s 0) moves.slots moves.cards,
     )
-
-pub returns : goal.returns
-returns c =
-    let cs = c.args.counts.now in
-    let l = c.args.window.now in
-    let inv = c.loop-s.invariant in
-    let e : c.loop-s.s ≡ length cs = omega arith in
-    let all : take c.loop-s.s cs ≡ cs = ap (λ (n : ℕ). take n cs) e ∙ take-length cs in
-    record {
-      keys = record { many = inv.1 ∙ ap total all; slots = inv.3 ∙ ap (λ (t : List ℕ). gather t l ++ drop c.loop-s.at l) all };
-      cards = inv.4;
-    }

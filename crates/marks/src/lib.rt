@@ -9,13 +9,14 @@ ghost use Rattle.slots.specs.Keys.{below};
 ghost use Rattle.cells.specs.Cells.{weight};
 ghost use Rattle.forecast.specs.Cells.{used_cells};
 ghost use Rattle.forecast.specs.Tidy.{Tidy};
-ghost use Rattle.stretches.specs.Marks.{Marked};
+ghost use Rattle.stretches.specs.Marks.{Marked, places_of, weights_of};
 ghost use Rattle.marks.specs.Marking.{after, Asked, Aims, Marking, OneMarked};
 
 use cells::Cell;
 use forecast::Forecast;
 use places::counting::keys_in;
 use places::finding::position;
+use stretches::Mark;
 use stretches::passing::mark_from;
 
 // A window of segments, and the request in it: the first of them and how many, the key, and whether it is put in or taken out.
@@ -27,8 +28,8 @@ pub struct Window {
     pub grows: bool,
 }
 
-// `v` put in front of the number at `k`; the last one goes.
-pub fn put_in(xs: &mut [usize], k: usize, v: usize)
+// `v` put in front of the mark at `k`; the last one goes.
+pub fn put_in(xs: &mut [Mark], k: usize, v: Mark)
     requires { k < length xs.old }
     ensures { xs.new ≡ insert_at k v (take (length xs.old - 1) xs.old) }
 {
@@ -62,13 +63,12 @@ fn mark_cell(
     w: Window,
     cell: Cell,
     n: usize,
-    at: &mut [usize],
-    weights: &mut [usize],
+    row: &mut [Mark],
 ) -> usize
-    requires n_bound { (w.n ≤ 64) × (n < length at.old) × (n < length weights.old) }
+    requires n_bound { (w.n ≤ 64) × (n < length row.old) }
     requires n_in_bounds { (64 * (w.first + w.n) ≤ length list.now) × (w.first + w.n ≤ length counts.now) × ((k : ℕ) → k < w.first + w.n → get_or counts.now k 0 ≤ 64) }
     ensures range { result ≤ n + 1 }
-    ensures marks { (ss : Segments) → Asked list.now counts.now w ss → Aims w ss cell → OneMarked cell (after w ss) (take n at.old) (take n weights.old) (take result at.new) (take result weights.new) }
+    ensures marks { (ss : Segments) → Asked list.now counts.now w ss → Aims w ss cell → OneMarked cell (after w ss) (places_of (take n row.old)) (weights_of (take n row.old)) (places_of (take result row.new)) (weights_of (take result row.new)) }
 {
     let marker = cell.marker;
     let s = cell.segment;
@@ -76,30 +76,26 @@ fn mark_cell(
         return n;
     }
     let p = place_of(list, counts, w, s, marker);
-    let k = mark_from(&at[..n], p);
-    put_in(&mut at[..n + 1], k, p);
-    put_in(&mut weights[..n + 1], k, cell.count);
+    let k = mark_from(&row[..n], p);
+    let mark = Mark {
+        place: p,
+        weight: cell.count,
+    };
+    put_in(&mut row[..n + 1], k, mark);
     n + 1
 }
 
-// The marks of the window's keys, as they will be with the request done, into `at` and `weights`; the answer is how many.
-pub fn mark(
-    list: &[u64],
-    counts: &[usize],
-    f: Forecast,
-    w: Window,
-    at: &mut [usize],
-    weights: &mut [usize],
-) -> usize
-    requires n_bound { (w.n ≤ 64) × (length at.old ≡ 12) × (length weights.old ≡ 12) }
+// The marks of the window's keys, as they will be with the request done, into `row`; the answer is how many.
+pub fn mark(list: &[u64], counts: &[usize], f: Forecast, w: Window, row: &mut [Mark]) -> usize
+    requires n_bound { (w.n ≤ 64) × (length row.old ≡ 12) }
     requires n_in_bounds { (64 * (w.first + w.n) ≤ length list.now) × (w.first + w.n ≤ length counts.now) × ((k : ℕ) → k < w.first + w.n → get_or counts.now k 0 ≤ 64) }
     requires tidy { Tidy f }
     ensures range { result ≤ 12 }
-    ensures marks { (ss : Segments) → Marking list.now counts.now f w ss → Marked (map (weight (used_cells f)) (after w ss)) (take result at.new) (take result weights.new) }
+    ensures marks { (ss : Segments) → Marking list.now counts.now f w ss → Marked (map (weight (used_cells f)) (after w ss)) (places_of (take result row.new)) (weights_of (take result row.new)) }
 {
     let mut n = 0;
     for i in 0..f.used {
-        n = mark_cell(list, counts, w, f.cell(i), n, at, weights);
+        n = mark_cell(list, counts, w, f.cell(i), n, row);
     }
     n
 }

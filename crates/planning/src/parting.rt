@@ -1,22 +1,23 @@
 // The parts of a packed window: all of it, and the two halves of a part.
 ghost use Rattle.std.specs.Prelude.{◌≡◌, ◌+◌, ◌≤◌, length};
 ghost use Rattle.lists.specs.Lists.{All};
+ghost use Rattle.stretches.specs.Marks.{weights_of};
 ghost use Rattle.planning.specs.Parts.{whole_of, left_of, right_of};
 
-use stretches::{Part, Passed};
+use stretches::{Mark, Part, Passed};
 
 // All `m` keys of a window, with all its marks.
-pub fn whole(weights: &[usize], m: usize, front: usize) -> Part
-    requires { (length weights.now ≤ 12) × All (λ w. w ≤ 12) weights.now × (front ≤ 12) }
-    ensures { result ≡ whole_of weights.now m front }
+pub fn whole(marks: &[Mark], m: usize, front: usize) -> Part
+    requires { (length marks.now ≤ 12) × All (λ w. w ≤ 12) (weights_of marks.now) × (front ≤ 12) }
+    ensures { result ≡ whole_of (weights_of marks.now) m front }
 {
     Part {
         place: 0,
         keys: m,
         from: 0,
-        to: weights.len(),
+        to: marks.len(),
         front,
-        all: front + weights.iter().sum::<usize>(),
+        all: front + marks.iter().map(|m| m.weight).sum::<usize>(),
     }
 }
 

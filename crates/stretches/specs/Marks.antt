@@ -1,7 +1,15 @@
 -- The weights of a window's keys, by the places of the few that weigh.
-use Rattle.std.specs.Prelude.{ℕ, ◌+◌, ◌≤◌, ◌<◌, ◌≡◌, List, [], ◌∷◌, ltb, length, take, if◌then◌else◌}
+use Rattle.std.specs.Prelude.{ℕ, ◌+◌, ◌≤◌, ◌<◌, ◌≡◌, List, [], ◌∷◌, map, ltb, length, take, if◌then◌else◌}
 use Rattle.lists.specs.Lists.{All, total}
 use Rattle.slots.specs.Keys.{Rising}
+use Rattle.stretches.specs.declared.Mark.{Mark}
+
+-- The places of marks, and their weights.
+abbrev pub places_of : List Mark → List ℕ
+places_of ms = map (λ m. m.place) ms
+
+abbrev pub weights_of : List Mark → List ℕ
+weights_of ms = map (λ m. m.weight) ms
 
 -- What the places below i weigh.
 abbrev pub weight_below : List ℕ → List ℕ → ℕ → ℕ

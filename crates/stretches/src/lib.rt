@@ -17,6 +17,13 @@ pub struct Part {
     pub all: usize,
 }
 
+// A key of a packed window that weighs: its place among the window's keys, and its weight.
+#[derive(Clone, Copy, PartialEq, Eq, Debug)]
+pub struct Mark {
+    pub place: usize,
+    pub weight: usize,
+}
+
 // The next mark, and what the left half weighs up to it.
 #[derive(Clone, Copy, PartialEq, Eq, Debug)]
 pub struct Passed {

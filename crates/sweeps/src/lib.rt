@@ -15,6 +15,7 @@ use aims::Aim;
 use forecast::Forecast;
 use marks::Window;
 use shares::Shape;
+use stretches::Mark;
 
 // The front's weight, in a window that begins at segment 0.
 fn front_weight(forecast: Forecast, first: usize) -> usize
@@ -48,19 +49,15 @@ pub fn plan_sweep(
         key: aim.key,
         grows: aim.grows,
     };
-    let mut at = [0; 12];
-    let mut weights = [0; 12];
-    let r = marks::mark(list, table, forecast, w, &mut at, &mut weights);
+    let mut row = [Mark {
+        place: 0,
+        weight: 0,
+    }; 12];
+    let r = marks::mark(list, table, forecast, w, &mut row);
+    let marks = &row[..r];
     let front = front_weight(forecast, first);
-    let part = planning::parting::whole(&weights[..r], aim.moves, front);
-    planning::splitting::plan_window(
-        &at[..r],
-        &weights[..r],
-        part,
-        &shape.levels,
-        level,
-        &mut plan[..n],
-    );
+    let part = planning::parting::whole(marks, aim.moves, front);
+    planning::splitting::plan_window(marks, part, &shape.levels, level, &mut plan[..n]);
 }
 
 // The counts of a plan in the table, and the sums of the windows over them.

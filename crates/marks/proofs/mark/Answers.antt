@@ -1,21 +1,23 @@
--- `mark` marks the keys that weigh. The loop's invariant: the first `i` cells are marked, with `n` marks, in arrays that keep their length.
+-- `mark` marks the keys that weigh. The loop's invariant: the first `i` cells are marked, with `n` marks, in a row that keeps its length.
 use Rattle.std.proofs.Common.{◌<◌, ◌≤◌, length, get_or, take, sym, ◌∙◌, subst, arith, length-take, take_all}
+use lib.ListN.{length-map}
 use Rattle.lists.proofs.Members.{at_mem}
 use Rattle.cells.specs.Cells.{zero_cell}
 use Rattle.forecast.specs.Cells.{used_cells}
 use Rattle.forecast.proofs.Stepping.{cells-used, cell-is}
+use Rattle.stretches.specs.Marks.{places_of, weights_of}
 use Rattle.marks.specs.Marking.{after, Aims}
 use Rattle.marks.proofs.CellMarks.{marking-none, marking-next}
 use Rattle.marks.proofs.Standing.{rises-after}
 use Rattle.marks.proofs.mark.Goals as goal
 
 pub loop-i-init : goal.loop-i-init
-loop-i-init c = (omega arith, (omega arith, omega arith), λ ss q. marking-none _)
+loop-i-init c = (omega arith, omega arith, λ ss q. marking-none _)
 
 pub mark_cell-n-requires : goal.mark_cell-n-requires
 mark_cell-n-requires c =
     record {
-      n_bound = (c.requires.n_bound.0, omega arith, omega arith);
+      n_bound = (c.requires.n_bound.0, omega arith);
       n_in_bounds = c.requires.n_in_bounds;
     }
 
@@ -27,9 +29,9 @@ loop-i-preserved c =
     let h : L.i < a.f.used = omega arith in
     let is = c.cell.ensures in (
       omega arith,
-      (omega arith, omega arith),
-      λ ss q. marking-next a.f t q.fitting L.i h (after a.w ss) (take L.n L.at) (take L.n L.weights) _ _ (rises-after a.list.now a.counts.now a.w ss q.asked)
-          (omega (arith, length-take c.mark_cell-n.result c.mark_cell-n.new.at)) (L.invariant.2 ss q)
+      omega arith,
+      λ ss q. marking-next a.f t q.fitting L.i h (after a.w ss) (places_of (take L.n L.row)) (weights_of (take L.n L.row)) _ _ (rises-after a.list.now a.counts.now a.w ss q.asked)
+          (omega (arith, length-map (take c.mark_cell-n.result c.mark_cell-n.new.row) (λ m. m.place), length-take c.mark_cell-n.result c.mark_cell-n.new.row)) (L.invariant.2 ss q)
           _ is (c.mark_cell-n.ensures.marks ss q.asked
           (subst (Aims a.w ss) (sym (is ∙ cell-is a.f t L.i)) (q.cells (get_or (used_cells a.f) L.i zero_cell) (at_mem (used_cells a.f) L.i zero_cell (omega (arith, cells-used a.f t)))))),
     )

@@ -10,6 +10,7 @@ use Rattle.rules.specs.Shares.{Shares}
 use Rattle.rules.specs.SharingOut.{left_share, plan}
 use Rattle.shares.specs.Rows.{Rows}
 use Rattle.stretches.specs.declared.Part.{Part}
+use Rattle.stretches.specs.Marks.{places_of, weights_of}
 use Rattle.stretches.specs.Parts.{weights_in, PartOf}
 use Rattle.stretches.proofs.Parts.{left-small}
 use Rattle.planning.specs.Plans.{Splits, Planned}
@@ -45,7 +46,7 @@ module _ (t : ℕ) where
     half = length c.args.counts.now / 2
 
     abbrev Weighed : List ℕ → Part → Type 0
-    Weighed ws p = PartOf ws c.args.at.now c.args.weights.now p
+    Weighed ws p = PartOf ws (places_of c.args.marks.now) (weights_of c.args.marks.now) p
 
     above : 1 ≤ c.args.level
     above = pos_of_ne-zero c.if-level-eq0.false
@@ -72,11 +73,11 @@ module _ (t : ℕ) where
 
   -- and the marks passed
   module _ (c : After-pass-p t) where
-    left : (ws : List ℕ) → PartOf ws c.args.at.now c.args.weights.now c.args.part → PartOf ws c.args.at.now c.args.weights.now (left_of c.args.part c.split-i.result c.pass-p.result)
-    left ws d = left-part ws c.args.at.now c.args.weights.now c.args.part d c.split-i.result c.split-i.ensures.range.0 c.pass-p.result (c.pass-p.ensures ws d)
+    left : (ws : List ℕ) → PartOf ws (places_of c.args.marks.now) (weights_of c.args.marks.now) c.args.part → PartOf ws (places_of c.args.marks.now) (weights_of c.args.marks.now) (left_of c.args.part c.split-i.result c.pass-p.result)
+    left ws d = left-part ws (places_of c.args.marks.now) (weights_of c.args.marks.now) c.args.part d c.split-i.result c.split-i.ensures.range.0 c.pass-p.result (c.pass-p.ensures ws d)
 
-    right : (ws : List ℕ) → PartOf ws c.args.at.now c.args.weights.now c.args.part → PartOf ws c.args.at.now c.args.weights.now (right_of c.args.part c.split-i.result c.pass-p.result)
-    right ws d = right-part ws c.args.at.now c.args.weights.now c.args.part d c.split-i.result c.split-i.ensures.range.0 c.pass-p.result (c.pass-p.ensures ws d)
+    right : (ws : List ℕ) → PartOf ws (places_of c.args.marks.now) (weights_of c.args.marks.now) c.args.part → PartOf ws (places_of c.args.marks.now) (weights_of c.args.marks.now) (right_of c.args.part c.split-i.result c.pass-p.result)
+    right ws d = right-part ws (places_of c.args.marks.now) (weights_of c.args.marks.now) c.args.part d c.split-i.result c.split-i.ensures.range.0 c.pass-p.result (c.pass-p.ensures ws d)
 
 pub split-i-requires-clause-splits : goal.split-i-requires-clause-splits
 split-i-requires-clause-splits t c = asked t (goal.at.split-i-requires-clause-splits t c).After-from-high
@@ -100,7 +101,7 @@ pub right_of-requires : goal.right_of-requires
 right_of-requires t c =
     let w = c.requires.by_index in
     let i = c.split-i.ensures.range.0 in
-    (omega (arith, w.1.inside, w.1.small), i, left-small w.0 c.args.at.now c.args.weights.now c.args.part w.1 c.split-i.result i c.pass-p.result (c.pass-p.ensures w.0 w.1))
+    (omega (arith, w.1.inside, w.1.small), i, left-small w.0 (places_of c.args.marks.now) (weights_of c.args.marks.now) c.args.part w.1 c.split-i.result i c.pass-p.result (c.pass-p.ensures w.0 w.1))
 
 pub plan_window-requires-2 : goal.plan_window-requires-2
 plan_window-requires-2 t c =

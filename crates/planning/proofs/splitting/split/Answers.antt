@@ -1,6 +1,7 @@
 -- `split` gives the left half, with no weight, half the keys, rounded up; else what the scan of the allowed numbers finds.
 use Rattle.std.proofs.Common.{◌≡◌, sym, ◌∙◌, arith}
 use native.Mathlib.Nat.{pos_of_ne-zero}
+use Rattle.stretches.specs.Marks.{places_of, weights_of}
 use Rattle.stretches.specs.Parts.{weights_in}
 use Rattle.stretches.proofs.Parts.{length-in}
 use Rattle.planning.proofs.Ranges.{first, last, tops, tried, even-ranged, scan-ranged, even_is, scan-is}
@@ -22,7 +23,7 @@ pub returns-then-part-eq0 : goal.returns-then-part-eq0
 returns-then-part-eq0 c =
     let a = c.args in record {
       range = even-ranged a.half a.low a.high a.part.keys c.requires.splits;
-      share = λ S l ws _ _ _ d. even_is a.half a.low a.high a.part.keys S l a.part.front (weights_in ws a.part) (length-in ws a.at.now a.weights.now a.part d)
+      share = λ S l ws _ _ _ d. even_is a.half a.low a.high a.part.keys S l a.part.front (weights_in ws a.part) (length-in ws (places_of a.marks.now) (weights_of a.marks.now) a.part d)
           (sym d.all ∙ c.if-part-eq0.true);
     }
 
@@ -49,6 +50,6 @@ returns c =
     let l = last-is (goal.at.returns c).After-min-last in
     let r = c.scan.ensures in record {
       range = scan-ranged a.half a.low a.high a.part.keys c.requires.splits c.scan.result (rw f at r.range.0) (rw l at r.range.1);
-      share = λ S k ws z b e d. scan-is a.half a.low a.high a.part.keys S k a.part.front (weights_in ws a.part) (length-in ws a.at.now a.weights.now a.part d) c.scan.result _ _ (record { from = f; to = l; size = z; least-is = b; most-is = e })
+      share = λ S k ws z b e d. scan-is a.half a.low a.high a.part.keys S k a.part.front (weights_in ws a.part) (length-in ws (places_of a.marks.now) (weights_of a.marks.now) a.part d) c.scan.result _ _ (record { from = f; to = l; size = z; least-is = b; most-is = e })
           (λ n. c.if-part-eq0.false (d.all ∙ n)) (r.share ws d);
     }

@@ -1,7 +1,10 @@
 -- `pass` passes the marks on the first keys of a part.
 use Rattle.std.proofs.Common.{◌≡◌, ℕ, ◌+◌, ◌≤◌, ◌<◌, List, length, get_or, refl, subst, arith}
+use Rattle.std.proofs.lemmas.List.{get_or-map}
+use lib.ListN.{length-map}
 use Rattle.lists.proofs.Members.{at_mem}
 use Rattle.stretches.specs.declared.Part.{Part}
+use Rattle.stretches.specs.Marks.{places_of, weights_of}
 use Rattle.stretches.specs.Parts.{PartOf, PassedTo}
 use Rattle.stretches.proofs.NextMark.{next, next-in, next-hit, next_more, next_grows}
 use Rattle.stretches.proofs.Parts.{Counted, start, counted-one, marks-small, next-to, passed_is}
@@ -10,10 +13,10 @@ use Rattle.stretches.proofs.passing.pass.Goals.{Start}
 
 module _ (s : Start) where
   abbrev at : List ℕ
-  at = s.args.at.now
+  at = places_of s.args.marks.now
 
   abbrev weights : List ℕ
-  weights = s.args.weights.now
+  weights = weights_of s.args.marks.now
 
   abbrev part : Part
   part = s.args.part
@@ -26,8 +29,14 @@ module _ (s : Start) where
   is = s.requires.by_index.1
 
   -- its marks are among the marks
-  inside : (k : ℕ) → k < part.to → (k < length at) × (k < length weights)
-  inside k h = omega (arith, is.to, is.marked.same, next-in at (part.place + part.keys))
+  inside : (k : ℕ) → k < part.to → k < length s.args.marks.now
+  inside k h = omega (arith, is.to, next-in at (part.place + part.keys), length-map s.args.marks.now (λ m. m.place))
+
+  place-at : (k : ℕ) → k < part.to → get_or at k 0 ≡ (get_or s.args.marks.now k (record { place = 0; weight = 0 })).place
+  place-at k h = get_or-map (λ m. m.place) s.args.marks.now k (record { place = 0; weight = 0 }) 0 (inside k h)
+
+  weight-at : (k : ℕ) → k < part.to → get_or weights k 0 ≡ (get_or s.args.marks.now k (record { place = 0; weight = 0 })).weight
+  weight-at k h = get_or-map (λ m. m.weight) s.args.marks.now k (record { place = 0; weight = 0 }) 0 (inside k h)
 
   module _ (k left : ℕ) (inv : (k ≤ next at (part.place + i)) × Counted weights (start part) (record { next = k; left = left })) where
     -- the next mark stands past the keys, or is not the part's
@@ -45,13 +54,13 @@ module _ (s : Start) where
     module _ (h : k < part.to) where
       few : (left ≤ 300) × (get_or weights k 0 ≤ 12)
       few =
-          let l : k < length weights = (inside k h).1 in
+          let l : k < length weights = omega (arith, inside k h, length-map s.args.marks.now (λ m. m.weight)) in
           (omega (arith, is.front, marks-small s.requires.by_index.0 at weights part is k), is.marked.small _ (at_mem weights k 0 l))
 
       on : get_or at k 0 < part.place + i → (k + 1 ≤ next at (part.place + i)) × Counted weights (start part) (record { next = k + 1; left = left + get_or weights k 0 })
       on l = (
-        omega (arith, next_more at (part.place + i) k inv.0 (inside k h).0 l),
-        counted-one weights (start part) (record { next = k; left = left }) (record { next = k + 1; left = left + get_or weights k 0 }) (inside k h).1 refl refl inv.1,
+        omega (arith, next_more at (part.place + i) k inv.0 (omega (arith, inside k h, length-map s.args.marks.now (λ m. m.place))) l),
+        counted-one weights (start part) (record { next = k; left = left }) (record { next = k + 1; left = left + get_or weights k 0 }) (omega (arith, inside k h, length-map s.args.marks.now (λ m. m.weight))) refl refl inv.1,
       )
 
 pub overflow_add-place : goal.overflow_add-place
@@ -61,31 +70,29 @@ overflow_add-place c =
 
 pub loop-next-init : goal.loop-next-init
 loop-next-init c =
-    (omega (arith, (is (goal.at.loop-next-init c).Start).from, next_grows c.args.at.now c.args.part.place (c.args.part.place + c.args.i) (omega arith)), refl)
+    (omega (arith, (is (goal.at.loop-next-init c).Start).from, next_grows (places_of c.args.marks.now) c.args.part.place (c.args.part.place + c.args.i) (omega arith)), refl)
 
-pub offset_bounds-at-next : goal.offset_bounds-at-next
-offset_bounds-at-next c = omega (arith, inside (goal.at.offset_bounds-at-next c).Start _ c.loop-next-test.true)
+pub offset_bounds-marks-next : goal.offset_bounds-marks-next
+offset_bounds-marks-next c = omega (arith, inside (goal.at.offset_bounds-marks-next c).Start _ c.loop-next-test.true)
 
-pub bounds-at-next : goal.bounds-at-next
-bounds-at-next c = (inside (goal.at.bounds-at-next c).Start _ c.loop-next-test.true).0
+pub bounds-marks-next : goal.bounds-marks-next
+bounds-marks-next c = inside (goal.at.bounds-marks-next c).Start _ c.loop-next-test.true
 
-pub returns-then-place-at : goal.returns-then-place-at
-returns-then-place-at c =
-    hit (goal.at.returns-then-place-at c).Start c.loop-next.next c.loop-next.left c.loop-next.invariant (omega (arith, c.if-place-at.true))
-
-pub offset_bounds-weights-next : goal.offset_bounds-weights-next
-offset_bounds-weights-next c = omega (arith, inside (goal.at.offset_bounds-weights-next c).Start _ c.loop-next-test.true)
-
-pub bounds-weights-next : goal.bounds-weights-next
-bounds-weights-next c = (inside (goal.at.bounds-weights-next c).Start _ c.loop-next-test.true).1
+pub returns-then-place-mark : goal.returns-then-place-mark
+returns-then-place-mark c =
+    let s = (goal.at.returns-then-place-mark c).Start in
+    hit s c.loop-next.next c.loop-next.left c.loop-next.invariant (omega (arith, place-at s c.loop-next.next c.loop-next-test.true, c.if-place-mark.true))
 
 pub overflow_add-left : goal.overflow_add-left
 overflow_add-left c =
-    omega (arith, few (goal.at.overflow_add-left c).Start c.loop-next.next c.loop-next.left c.loop-next.invariant c.loop-next-test.true)
+    let s = (goal.at.overflow_add-left c).Start in
+    omega (arith, weight-at s c.loop-next.next c.loop-next-test.true, few s c.loop-next.next c.loop-next.left c.loop-next.invariant c.loop-next-test.true)
 
 pub loop-next-preserved : goal.loop-next-preserved
 loop-next-preserved c =
-    on (goal.at.loop-next-preserved c).Start c.loop-next.next c.loop-next.left c.loop-next.invariant c.loop-next-test.true c.if-place-at.false
+    let s = (goal.at.loop-next-preserved c).Start in
+    rw (← weight-at s c.loop-next.next c.loop-next-test.true)
+    (on s c.loop-next.next c.loop-next.left c.loop-next.invariant c.loop-next-test.true (omega (arith, place-at s c.loop-next.next c.loop-next-test.true, c.if-place-mark.false)))
 
 pub returns : goal.returns
 returns c =

@@ -39,11 +39,6 @@ module _ (xs : List ℕ) where
 
 -- WHAT IS KNOWN of the slots passed
 module _ {xs : List ℕ} where
-  -- before the first slot
-  pub sound_none : Sound xs 0 0 0
-  sound_none =
-      record { faultless = λ k l. absurd (omega arith); most = λ k l. absurd (omega arith); there = λ h. absurd (h refl); many = refl }
-
   -- the same of equal numbers
   pub sound-as : {j j' top top' keys keys' : ℕ} → j ≡ j' → top ≡ top' → keys ≡ keys' → Sound xs j top keys → Sound xs j' top' keys'
   sound-as {j} {j'} {top} {top'} {keys} {keys'} p q r s =

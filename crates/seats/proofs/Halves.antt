@@ -1,12 +1,12 @@
 -- Six steps up find the last of 64 entries that passes, where an entry passes if a later one does.
-use mathlib.Core.Path.{◌≡◌, refl, ap, subst}
+use mathlib.Core.Path.{◌≡◌, refl, subst}
 use mathlib.Core.Bool.{Bool, true, false, not}
 use mathlib.Core.Logic.{◌⊎◌, inl, inr}
 use mathlib.Core.List.{List, [], ◌∷◌}
 use Prim.Native.Nat.{ℕ, zero, suc, ◌+◌, ◌≤◌, ◌<◌}
 use native.Mathlib.Omega.{arith}
 use lib.Dec.{T, not_T}
-use lib.ListN.{length, drop, get_or, drop_of_length-le}
+use lib.ListN.{length, drop, get_or}
 use Rattle.lists.specs.Lists.{total}
 use Rattle.std.proofs.Common.{if◌then◌else◌}
 use Rattle.seats.specs.Halves.{climb, halved, Last}
@@ -20,9 +20,6 @@ pub climbs-turn : (t : ℕ → Bool) (s k : ℕ) (steps : List ℕ) → k < leng
 climbs-turn t s k [] h = absurd (omega arith)
 climbs-turn t s zero (x ∷ xs) h = refl
 climbs-turn t s (suc k) (x ∷ xs) h = climbs-turn t s k xs (omega arith)
-
-pub climbs-end : (t : ℕ → Bool) (s k : ℕ) (steps : List ℕ) → length steps ≤ k → climbs t s (drop k steps) ≡ s
-climbs-end t s k steps h = ap (climbs t s) (drop_of_length-le steps h)
 
 -- how far they go at most
 pub total-turn : (k : ℕ) (steps : List ℕ) → k < length steps → total (drop k steps) ≡ get_or steps k 0 + total (drop (suc k) steps)

@@ -1,10 +1,10 @@
 -- Counts of segments, one after the other, and the slots of one segment in a list.
-use mathlib.Core.Path.{◌≡◌, refl, sym, ap, ap₂, ◌∙◌}
+use mathlib.Core.Path.{◌≡◌, sym, ap, ap₂, ◌∙◌}
 use mathlib.Core.List.{List, [], ◌∷◌, ◌++◌, map, map-append, append_assoc}
 use Prim.Native.Nat.{ℕ, suc, ◌+◌, ◌-◌, ◌*◌, ◌≤◌, ◌<◌}
 use native.Mathlib.Numerals.{add-one}
 use native.Mathlib.Omega.{arith}
-use lib.ListN.{length, take, drop, get_or, set, take-append-drop, length-append, length-drop, length-map, get_or-map}
+use lib.ListN.{length, take, drop, get_or, set, length-append, length-drop, length-map, get_or-map}
 use lib.Seq.{take-suc, get_or-take, get_or-drop, drop-cons, set_at, length-take-le, ext_get_or}
 use Rattle.lists.specs.Lists.{All, total, splice, padded}
 use Rattle.lists.proofs.Members.{at_mem}
@@ -39,11 +39,6 @@ module _ (ss : Segments) (slots : List ℕ) (sh : Shows ss slots) (s : ℕ) (h :
       count (get_or ss s []) (λ k m. sh.listed.live k (in-part ss s shown-within k m)) (omega (arith, shown-few)) (rw long whole)
 
 -- MANY
-pub counted_none : (ss : Segments) (first : ℕ) (counts : List ℕ) → Counted ss first 0 counts 0 counts
-counted_none ss first counts =
-    let e : first ≡ first + 0 = omega arith in
-    record { sum = refl; places = sym (take-append-drop first counts) ∙ ap (λ (k : ℕ). take first counts ++ drop k counts) e }
-
 pub counted-more : (ss : Segments) (first i r c : ℕ) (counts counts' : List ℕ) → Counted ss first i counts r counts'
     → first + i < length ss → first + i < length counts → c ≡ length (get_or ss (first + i) []) → Counted ss first (i + 1) counts (r + c) (set counts' (first + i) c)
 counted-more ss first i r c counts counts' w h k e = record { sum = sums; places = places }

@@ -7,21 +7,14 @@ ghost use Rattle.records.specs.Asked.{asked, size_for, card_for, carrying};
 
 use rules::{Record, Request};
 
-// Four bytes as a number, high byte first.
-fn four(a: u8, b: u8, c: u8, d: u8) -> u64
-    ensures { (result ≡ ((a * 256 + b) * 256 + c) * 256 + d) × (result < 2 ^ 32) }
-{
-    ((a as u64 * 256 + b as u64) * 256 + c as u64) * 256 + d as u64
-}
-
 // The key of a record.
 fn key_of(bytes: &[u8]) -> u64
     requires { 11 ≤ length bytes.now }
     ensures { result ≡ key_of bytes.now }
 {
-    let high = four(bytes[3], bytes[4], bytes[5], bytes[6]);
-    let low = four(bytes[7], bytes[8], bytes[9], bytes[10]);
-    high * 4294967296 + low
+    u64::from_be_bytes([
+        bytes[3], bytes[4], bytes[5], bytes[6], bytes[7], bytes[8], bytes[9], bytes[10],
+    ])
 }
 
 // The card of a record of kind 4.
@@ -29,7 +22,7 @@ fn card_of(bytes: &[u8]) -> u32
     requires { 15 ≤ length bytes.now }
     ensures { result ≡ card_of bytes.now }
 {
-    four(bytes[11], bytes[12], bytes[13], bytes[14]) as u32
+    u32::from_be_bytes([bytes[11], bytes[12], bytes[13], bytes[14]])
 }
 
 // No record: a short one, or one with a wrong mark or kind.
@@ -112,10 +105,7 @@ fn byte(number: u64, unit: u64) -> u8
 pub fn size_of(grows: bool) -> usize
     ensures { (result ≡ size_for grows) × (result ≤ 15) }
 {
-    if grows {
-        return 15;
-    }
-    11
+    if grows { 15 } else { 11 }
 }
 
 // A request as bytes: a key put in with its card, kind 4, or taken out, whose record is the first 11 of them.

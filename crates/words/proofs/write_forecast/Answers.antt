@@ -15,12 +15,6 @@ pub loop-i-init : goal.loop-i-init
 loop-i-init c =
     (rw length-set c.requires, rw length-set c.requires, write-start c.args.forecast c.args.words.now (omega (arith, c.requires)))
 
-pub bounds-words-at-in-loop-i : goal.bounds-words-at-in-loop-i
-bounds-words-at-in-loop-i c = simp length-set (omega arith)
-
-pub bounds-words-at-in-loop-i-2 : goal.bounds-words-at-in-loop-i-2
-bounds-words-at-in-loop-i-2 c = simp length-set (omega arith)
-
 pub loop-i-preserved : goal.loop-i-preserved
 loop-i-preserved c =
     let v = c.loop-i in

@@ -22,6 +22,7 @@ pub fn place_in(list: &[u64], a: usize, key: u64) -> usize
     ensures place { result ≡ halved (key_up_to list.now key) a }
 {
     let mut at = a;
+    // By steps and not by std's halving, whose promise asks for slots that rise: these may be any.
     for step in [32, 16, 8, 4, 2, 1] {
         if less_one(list[at + step]) < key {
             at += step;
@@ -41,6 +42,7 @@ fn place_at(rest: usize, found: u64, key: u64) -> usize
     rest
 }
 
+// The key before `key`, where the last slot with a key up to it holds `found`; 0 where no slot has one.
 fn before_at(found: u64, key: u64) -> u64
     ensures { result ≡ before_at found key }
 {

@@ -8,7 +8,7 @@ ghost use Rattle.rules.specs.Cards.{gap_card};
 ghost use Rattle.strays.specs.Blanks.{Gathers};
 
 // Cards together, in four lanes: all are 0 where each lane is.
-// Four numbers, not one, to a fold: in one, the cards of 64 segments half full take 4,000 instructions in place of 2,300.
+// Four numbers, not one by a fold: in one, the cards of 64 segments half full take 4,000 instructions in place of 2,300.
 #[derive(Clone, Copy, PartialEq, Eq, Debug)]
 pub struct Lanes {
     pub w: u32,

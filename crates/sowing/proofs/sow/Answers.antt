@@ -18,7 +18,7 @@ spread-requires-clause-window_len c = omega (arith, sized c.requires.planted)
 
 pub spread-requires-clause-counts_value : goal.spread-requires-clause-counts_value
 spread-requires-clause-counts_value c =
-    let d = c.requires.planted in (omega (arith, (d.grown c.if-grows.true).0), up_to d c.pack-m.ensures.keys)
+    let d = c.requires.planted in (omega (arith, (d.grown c.if-grows.true).0), omega (arith, up_to d c.pack-m.ensures.keys))
 
 pub returns-then-grows-clause-keys : goal.returns-then-grows-clause-keys
 returns-then-grows-clause-keys c = put_in c.requires.planted c.pack-m.ensures.keys c.if-grows.true c.spread.ensures.keys

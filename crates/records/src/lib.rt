@@ -93,14 +93,6 @@ pub fn record_at(bytes: &[u8], place: usize) -> Record
     record_of(&bytes[place..])
 }
 
-// One byte of a number: the number of times `unit` goes into it, modulo 256.
-fn byte(number: u64, unit: u64) -> u8
-    requires { 1 ≤ unit }
-    ensures { result ≡ number / unit % 256 }
-{
-    (number / unit % 256) as u8
-}
-
 // How many bytes a request's record has.
 pub fn size_of(grows: bool) -> usize
     ensures { (result ≡ size_for grows) × (result ≤ 15) }
@@ -113,22 +105,9 @@ pub fn bytes_of(grows: bool, key: u64, card: u32) -> [u8; 15]
     ensures { records_of (take (size_for grows) result) ≡ asking (asked grows key) (card_for grows card) (size_for grows) ∷ [] }
 {
     let kind = if grows { 4 } else { 2 };
-    let number = card as u64;
+    let k = key.to_be_bytes();
+    let c = card.to_be_bytes();
     [
-        0xA5,
-        0x5A,
-        kind,
-        byte(key, 72057594037927936),
-        byte(key, 281474976710656),
-        byte(key, 1099511627776),
-        byte(key, 4294967296),
-        byte(key, 16777216),
-        byte(key, 65536),
-        byte(key, 256),
-        byte(key, 1),
-        byte(number, 16777216),
-        byte(number, 65536),
-        byte(number, 256),
-        byte(number, 1),
+        0xA5, 0x5A, kind, k[0], k[1], k[2], k[3], k[4], k[5], k[6], k[7], c[0], c[1], c[2], c[3],
     ]
 }

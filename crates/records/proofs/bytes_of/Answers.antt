@@ -15,19 +15,5 @@ kind-is j =
 
 pub returns : goal.returns
 returns c =
-    rw (
-      kind-is (goal.at.returns c).Joined-grows,
-      c.byte.ensures,
-      c.byte-2.ensures,
-      c.byte-3.ensures,
-      c.byte-4.ensures,
-      c.byte-5.ensures,
-      c.byte-6.ensures,
-      c.byte-7.ensures,
-      c.byte-8.ensures,
-      c.byte-9.ensures,
-      c.byte-10.ensures,
-      c.byte-11.ensures,
-      c.byte-12.ensures,
-    )
+    rw (kind-is (goal.at.returns c).Joined-grows, c.to_be_bytes-k.ensures, c.to_be_bytes-c.ensures)
     (one-record c.args.grows c.args.key c.args.card (omega arith) (omega arith))

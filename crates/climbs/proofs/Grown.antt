@@ -44,23 +44,26 @@ module _ {h s gone : ℕ} {t : List ℕ} (x : Tabled h s gone t) (k : s < 2 ^ h)
       → get_or t (entry_of (2 ^ h) s l) 0 + grown - gone ≡ count l s (set ss s new)
   way-count ss new grown e r g = omega (arith, counts ss e r, count-set-in ss s new (omega arith) l s refl)
 
--- NO WINDOW below level l is within limits
+-- NO WINDOW from level 1 to l is within limits
 abbrev pub Tried : Shares → ℕ → Segments → ℕ → Type 0
-Tried S s ms l = (j : ℕ) → 1 ≤ j → j < l → T (not (within S j (count j s ms)))
+Tried S s ms l = (j : ℕ) → 1 ≤ j → j ≤ l → T (not (within S j (count j s ms)))
 
 -- none so far, and this one not either
-pub tried-more : (S : Shares) (s : ℕ) (ms : Segments) (l n : ℕ) → n ≡ count l s ms → false ≡ within S l n → Tried S s ms l → Tried S s ms (l + 1)
-tried-more S s ms l n e f t j p q = elim (dec_lt j l) [ yes k ↦ t j p k | no k ↦ let i : j ≡ l = omega arith in rw (i, ← e, ← f) tt ]
+pub tried-more : (S : Shares) (s : ℕ) (ms : Segments) (l n : ℕ) → n ≡ count (l + 1) s ms → false ≡ within S (l + 1) n → Tried S s ms l → Tried S s ms (l + 1)
+tried-more S s ms l n e f t j p q = elim (dec_lt l j) [
+  | yes k ↦ let i : j ≡ l + 1 = omega arith in rw (i, ← e, ← f) tt
+  | no k ↦ t j p (omega arith)
+]
 
 -- THE END
 -- this one is the first within limits
-pub climbed-here : (S : Shares) (s : ℕ) (ms : Segments) (l n : ℕ) → 1 ≤ l → l ≤ S.height → n ≡ count l s ms → true ≡ within S l n → Tried S s ms l
-    → Climbed S s ms (Some (record { level = l; keys = n }))
+pub climbed-here : (S : Shares) (s : ℕ) (ms : Segments) (l n : ℕ) → l < S.height → n ≡ count (l + 1) s ms → true ≡ within S (l + 1) n → Tried S s ms l
+    → Climbed S s ms (Some (record { level = l + 1; keys = n }))
 unfolding chosen
-climbed-here S s ms l n o k e t tried =
-    (first-is (λ j. within S j (count j s ms)) 1 S.height l (o, rw (← e, ← t) tt, tried) (omega arith), e)
+climbed-here S s ms l n k e t tried =
+    (first-is (λ j. within S j (count j s ms)) 1 S.height (l + 1) (omega arith, rw (← e, ← t) tt, λ j p q. tried j p (omega arith)) (omega arith), e)
 
 -- there is none
-pub climbed-none : (S : Shares) (s : ℕ) (ms : Segments) → Tried S s ms (S.height + 1) → Climbed S s ms None
+pub climbed-none : (S : Shares) (s : ℕ) (ms : Segments) → Tried S s ms S.height → Climbed S s ms None
 unfolding chosen
 climbed-none S s ms tried = first-none (λ j. within S j (count j s ms)) 1 S.height (λ j p q. tried j p (omega arith))

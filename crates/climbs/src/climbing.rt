@@ -25,16 +25,23 @@ pub fn climb(table: &[usize], shape: Shape, seg: usize, grown: usize, gone: usiz
     ensures range { IfSome result (λ c. (1 ≤ c.level) × (c.level ≤ shape.height) × (c.keys ≤ 4097)) }
     ensures window { (ss : Segments) (new : List ℕ) → length ss ≡ 2 ^ shape.height → table.now ≡ table_of shape.height ss → length new + gone ≡ length (get_or ss seg []) + grown → Climbed (shares_at shape) seg (set ss seg new) result }
 {
+    let h = shape.height;
     let n = table.len() / 2 + 1;
     let mut e = seg;
+    let mut level = 0;
     let mut size = 1;
-    for level in 1..=shape.height {
+    // A loop that yields by `break`: document 01 names this form for the climb.
+    let found = loop {
+        if h <= level {
+            break None;
+        }
+        level += 1;
         size *= 2;
         e = n + e / 2;
         let keys = table[e] + grown - gone;
         if fits(shape, level, size, keys) {
-            return Some(Climb { level, keys });
+            break Some(Climb { level, keys });
         }
-    }
-    None
+    };
+    found
 }

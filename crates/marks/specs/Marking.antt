@@ -1,5 +1,5 @@
 -- A request in a window of segments: what the marks of the window's keys, once it is done, are found from.
-use Rattle.std.specs.Prelude.{◌≡◌, ℕ, ◌<◌, not, T, ◌≢◌, List, length, take, drop, leb}
+use Rattle.std.specs.Prelude.{◌≡◌, ℕ, ◌+◌, ◌*◌, ◌<◌, ◌≤◌, not, T, ◌≢◌, List, length, take, drop, get_or, leb}
 use Rattle.lists.specs.Lists.{All, insert_at}
 use Rattle.lists.specs.Search.{place_by}
 use Rattle.slots.specs.Segments.{Segments, keys}
@@ -18,6 +18,10 @@ part w ss = take w.n (drop w.first ss)
 -- Its keys, with the request done.
 unfoldable pub after : Window → Segments → List ℕ
 after w ss = changed w.grows w.key (keys (part w ss))
+
+-- List and counts reach over the window's segments, which hold at most 64 keys each.
+abbrev pub Reached : List ℕ → List ℕ → Window → Type 0
+Reached slots counts w = (64 * (w.first + w.n) ≤ length slots) × (w.first + w.n ≤ length counts) × ((k : ℕ) → k < w.first + w.n → get_or counts k 0 ≤ 64)
 
 -- The slots show these segments, with these counts; a key that is put in is from 1 up and is not live, and one that is taken out is in the window.
 pub record Asked (slots counts : List ℕ) (w : Window) (ss : Segments) : Type 0 where

@@ -10,7 +10,7 @@ ghost use Rattle.cells.specs.Cells.{weight};
 ghost use Rattle.forecast.specs.Cells.{used_cells};
 ghost use Rattle.forecast.specs.Tidy.{Tidy};
 ghost use Rattle.stretches.specs.Marks.{Marked, places_of, weights_of};
-ghost use Rattle.marks.specs.Marking.{after, Asked, Aims, Marking, OneMarked};
+ghost use Rattle.marks.specs.Marking.{after, Reached, Asked, Aims, Marking, OneMarked};
 
 use cells::Cell;
 use forecast::Forecast;
@@ -41,7 +41,7 @@ pub fn put_in(xs: &mut [Mark], k: usize, v: Mark)
 // Where `marker`, a key of segment `s` of the window, stands among the window's keys once the request is done.
 fn place_of(list: &[u64], counts: &[usize], w: Window, s: usize, marker: u64) -> usize
     requires first_le_s { (w.first ≤ s) × (s < w.first + w.n) × (w.n ≤ 64) }
-    requires n_in_bounds { (64 * (w.first + w.n) ≤ length list.now) × (w.first + w.n ≤ length counts.now) × ((k : ℕ) → k < w.first + w.n → get_or counts.now k 0 ≤ 64) }
+    requires n_in_bounds { Reached list.now counts.now w }
     ensures { (ss : Segments) → Asked list.now counts.now w ss → Mem marker (get_or ss s []) → result ≡ length (below marker (after w ss)) }
 {
     let part = &list[64 * s..64 * s + 64];
@@ -66,7 +66,7 @@ fn mark_cell(
     row: &mut [Mark],
 ) -> usize
     requires n_bound { (w.n ≤ 64) × (n < length row.old) }
-    requires n_in_bounds { (64 * (w.first + w.n) ≤ length list.now) × (w.first + w.n ≤ length counts.now) × ((k : ℕ) → k < w.first + w.n → get_or counts.now k 0 ≤ 64) }
+    requires n_in_bounds { Reached list.now counts.now w }
     ensures range { result ≤ n + 1 }
     ensures marks { (ss : Segments) → Asked list.now counts.now w ss → Aims w ss cell → OneMarked cell (after w ss) (places_of (take n row.old)) (weights_of (take n row.old)) (places_of (take result row.new)) (weights_of (take result row.new)) }
 {
@@ -88,7 +88,7 @@ fn mark_cell(
 // The marks of the window's keys, as they will be with the request done, into `row`; the answer is how many.
 pub fn mark(list: &[u64], counts: &[usize], f: Forecast, w: Window, row: &mut [Mark]) -> usize
     requires n_bound { (w.n ≤ 64) × (length row.old ≡ 12) }
-    requires n_in_bounds { (64 * (w.first + w.n) ≤ length list.now) × (w.first + w.n ≤ length counts.now) × ((k : ℕ) → k < w.first + w.n → get_or counts.now k 0 ≤ 64) }
+    requires n_in_bounds { Reached list.now counts.now w }
     requires tidy { Tidy f }
     ensures range { result ≤ 12 }
     ensures marks { (ss : Segments) → Marking list.now counts.now f w ss → Marked (map (weight (used_cells f)) (after w ss)) (places_of (take result row.new)) (weights_of (take result row.new)) }

@@ -14,13 +14,6 @@ use Rattle.marks.proofs.mark.Goals as goal
 pub loop-i-init : goal.loop-i-init
 loop-i-init c = (omega arith, omega arith, λ ss q. marking-none _)
 
-pub mark_cell-n-requires : goal.mark_cell-n-requires
-mark_cell-n-requires c =
-    record {
-      n_bound = (c.requires.n_bound.0, omega arith);
-      n_in_bounds = c.requires.n_in_bounds;
-    }
-
 pub loop-i-preserved : goal.loop-i-preserved
 loop-i-preserved c =
     let L = c.loop-i in

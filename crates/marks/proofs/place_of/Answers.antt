@@ -1,5 +1,5 @@
 -- `place_of` tells where a marker will stand, by the counts before its segment and its place there.
-use Rattle.std.proofs.Common.{◌≡◌, ℕ, ◌+◌, ◌-◌, ◌*◌, ◌<◌, ◌≤◌, true, false, [], length, get_or, take, drop, arith, length-drop, length-take}
+use Rattle.std.proofs.Common.{◌≡◌, ℕ, ◌+◌, ◌-◌, ◌*◌, ◌<◌, ◌≤◌, true, false, [], length, get_or, take, drop, arith, length-take}
 use mathlib.Core.List.{Memᴰ as Mem}
 use Rattle.slots.specs.Segments.{Segments}
 use Rattle.slots.specs.Keys.{below}
@@ -39,26 +39,8 @@ module _ (P : After-position) where
         place-less P.args.list.now P.args.counts.now P.args.w ss q P.requires.n_in_bounds.0 P.requires.n_in_bounds.1 P.args.s P.args.marker b P.position.result P.requires.first_le_s.0 P.requires.first_le_s.1 m
         P.keys_in.ensures.sum P.position.ensures.place (rw t tt)
 
-pub keys_in-requires : goal.keys_in-requires
-keys_in-requires c = (c.requires.first_le_s.0, omega arith, omega arith, λ k h. c.requires.n_in_bounds.2 k (omega arith))
-
-pub position-requires : goal.position-requires
-position-requires c =
-    omega (
-      arith,
-      c.requires.n_in_bounds.2 c.args.s (omega arith),
-      length-take (64 * c.args.s + 64 - 64 * c.args.s) (drop (64 * c.args.s) c.args.list.now),
-      length-drop (64 * c.args.s) c.args.list.now,
-    )
-
-pub overflow_add-p : goal.overflow_add-p
-overflow_add-p c = omega (arith, few (goal.at.overflow_add-p c).After-position)
-
 pub returns-then-marker-w : goal.returns-then-marker-w
 returns-then-marker-w c = λ ss q m. same (goal.at.returns-then-marker-w c).After-position ss q m c.if-marker-w.true
-
-pub overflow_add-result : goal.overflow_add-result
-overflow_add-result c = omega (arith, few (goal.at.overflow_add-result c).After-position)
 
 pub returns-then-w : goal.returns-then-w
 returns-then-w c = λ ss q m. more (goal.at.returns-then-w c).After-position ss q m c.if-w.true c.if-marker-w.false

@@ -23,6 +23,7 @@ pub fn read_forecast(words: &[u64]) -> Forecast
 {
     let mut forecast = Forecast::empty();
     forecast.used = usize::from(narrow(words[0]));
+    // By index: three rows at i stand beside three words at 3 * i + 1.
     for i in 0..12 {
         let at = 3 * i + 1;
         forecast.markers[i] = words[at];
@@ -38,6 +39,7 @@ pub fn write_forecast(forecast: Forecast, words: &mut [u64])
     ensures { words.new ≡ forecast_words forecast }
 {
     words[0] = forecast.used as u64;
+    // By index: three rows at i stand beside three words at 3 * i + 1.
     for i in 0..12 {
         let at = 3 * i + 1;
         words[at] = forecast.markers[i];

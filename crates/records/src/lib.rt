@@ -64,25 +64,20 @@ fn record_of(bytes: &[u8]) -> Record
     if bytes[1] != 0x5A {
         return bad();
     }
-    let kind = bytes[2];
-    if kind == 4 {
-        return with_card(bytes);
-    }
-    if kind == 1 {
-        return Record {
+    match bytes[2] {
+        1 => Record {
             request: Request::Insert(key_of(bytes)),
             card: 0,
             size: 11,
-        };
-    }
-    if kind == 2 {
-        return Record {
+        },
+        2 => Record {
             request: Request::Delete(key_of(bytes)),
             card: 0,
             size: 11,
-        };
+        },
+        4 => with_card(bytes),
+        _ => bad(),
     }
-    bad()
 }
 
 // The record at a place.

@@ -9,7 +9,6 @@ ghost use Rattle.stretches.specs.Tries.{Halves};
 ghost use Rattle.planning.specs.Plans.{Splits, Planned};
 
 use crate::parting;
-use shares::LevelShares;
 use stretches::{Mark, Part, Stretch, Tried, crossing, passing};
 
 // Of the numbers from `first` to `last` the one that makes formula 6 least: stretches between marks, upward. A half has `c` slots.
@@ -67,22 +66,23 @@ pub fn split(marks: &[Mark], part: Part, half: usize, low: usize, high: usize) -
 pub fn plan_window(
     marks: &[Mark],
     part: Part,
-    levels: &LevelShares,
+    lows: &[u8],
+    highs: &[u8],
     level: usize,
     counts: &mut [usize],
 )
     requires by_index { (ws : List ℕ) × PartOf ws (places_of marks.now) (weights_of marks.now) part }
-    requires rows { (S : Shares) × Rows S levels.now.lows levels.now.highs × Planned S level (length counts.old) part.keys }
+    requires rows { (S : Shares) × Rows S lows.now highs.now × Planned S level (length counts.old) part.keys }
     ensures range { length counts.new ≡ length counts.old }
-    ensures counts { (S : Shares) (ws : List ℕ) → level ≤ S.height → Rows S levels.now.lows levels.now.highs → PartOf ws (places_of marks.now) (weights_of marks.now) part → counts.new ≡ plan S level part.front (weights_in ws part) }
+    ensures counts { (S : Shares) (ws : List ℕ) → level ≤ S.height → Rows S lows.now highs.now → PartOf ws (places_of marks.now) (weights_of marks.now) part → counts.new ≡ plan S level part.front (weights_in ws part) }
 {
     if level == 0 {
         counts[0] = part.keys;
         return;
     }
     let half = counts.len() / 2;
-    let low = usize::from(levels.lows[level]);
-    let high = usize::from(levels.highs[level]);
+    let low = usize::from(lows[level]);
+    let high = usize::from(highs[level]);
     let i = split(marks, part, half, low, high);
     // Two segments get their keys without further calls.
     if level == 1 {
@@ -92,11 +92,19 @@ pub fn plan_window(
     }
     let p = passing::pass(marks, part, i);
     let (left, right) = counts.split_at_mut(half);
-    plan_window(marks, parting::left_of(part, i, p), levels, level - 1, left);
+    plan_window(
+        marks,
+        parting::left_of(part, i, p),
+        lows,
+        highs,
+        level - 1,
+        left,
+    );
     plan_window(
         marks,
         parting::right_of(part, i, p),
-        levels,
+        lows,
+        highs,
         level - 1,
         right,
     );

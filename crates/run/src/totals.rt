@@ -10,10 +10,10 @@ pub fn add_tally(t: Totals, tally: Tally) -> Totals
     ensures { result ≡ added t tally }
 {
     Totals {
-        worked: std::num::wrapping_add_u32(t.worked, (tally.worked % 4294967296) as u32),
-        refused: std::num::wrapping_add_u32(t.refused, (tally.refused % 4294967296) as u32),
-        moved: std::num::wrapping_add_u32(t.moved, (tally.moves % 4294967296) as u32),
-        sweeps: std::num::wrapping_add_u32(t.sweeps, (tally.sweeps % 4294967296) as u32),
+        worked: t.worked.wrapping_add((tally.worked % 4294967296) as u32),
+        refused: t.refused.wrapping_add((tally.refused % 4294967296) as u32),
+        moved: t.moved.wrapping_add((tally.moves % 4294967296) as u32),
+        sweeps: t.sweeps.wrapping_add((tally.sweeps % 4294967296) as u32),
     }
 }
 
@@ -22,9 +22,9 @@ pub fn difference(later: Totals, earlier: Totals) -> Totals
     ensures { result ≡ since later earlier }
 {
     Totals {
-        worked: std::num::wrapping_sub_u32(later.worked, earlier.worked),
-        refused: std::num::wrapping_sub_u32(later.refused, earlier.refused),
-        moved: std::num::wrapping_sub_u32(later.moved, earlier.moved),
-        sweeps: std::num::wrapping_sub_u32(later.sweeps, earlier.sweeps),
+        worked: later.worked.wrapping_sub(earlier.worked),
+        refused: later.refused.wrapping_sub(earlier.refused),
+        moved: later.moved.wrapping_sub(earlier.moved),
+        sweeps: later.sweeps.wrapping_sub(earlier.sweeps),
     }
 }

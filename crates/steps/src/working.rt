@@ -32,6 +32,7 @@ pub fn work(
 {
     let mut last = Ok(());
     let mut tally = tallies::none();
+    // By place: a record has 11 bytes or 15, so that no chunks of one size fit.
     while tally.place < requests.len() {
         let record = records::record_at(requests, tally.place);
         let request = record.request;

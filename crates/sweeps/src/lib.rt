@@ -57,7 +57,15 @@ pub fn plan_sweep(
     let marks = &row[..r];
     let front = front_weight(forecast, first);
     let part = planning::parting::whole(marks, aim.moves, front);
-    planning::splitting::plan_window(marks, part, &shape.levels, level, &mut plan[..n]);
+    let levels = shape.levels;
+    planning::splitting::plan_window(
+        marks,
+        part,
+        &levels.lows,
+        &levels.highs,
+        level,
+        &mut plan[..n],
+    );
 }
 
 // The counts of a plan in the table, and the sums of the windows over them.

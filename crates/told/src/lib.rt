@@ -54,8 +54,7 @@ pub fn run_told(
 }
 
 // The run, adding to the totals that are lent. C programs call it by the crate `told_c`.
-#[unsafe(no_mangle)]
-pub extern "C" fn ff_run_over(
+pub fn ff_run_over(
     profile: u64,
     list: &mut [u64],
     cards: &mut [u32],

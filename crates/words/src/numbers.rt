@@ -1,14 +1,8 @@
-// The numbers of refusals and verdicts.
+// The numbers of verdicts.
 ghost use Rattle.std.specs.Prelude.{◌≡◌};
-ghost use Rattle.rules.specs.Refusals.{refusal_number, verdict_number};
+ghost use Rattle.rules.specs.Refusals.{verdict_number};
 
-use rules::{Refusal, Verdict};
-
-pub fn refusal_number(refusal: Refusal) -> u64
-    ensures { result ≡ refusal_number refusal }
-{
-    u64::from(refusal)
-}
+use rules::Verdict;
 
 // The stop number of a run.
 pub fn verdict_number(verdict: Verdict) -> u64

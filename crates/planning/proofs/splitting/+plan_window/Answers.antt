@@ -55,10 +55,10 @@ module _ (t : ℕ) where
     halved = down c.requires.rows.0 c.args.level (length c.args.counts.now) c.args.part.keys c.requires.rows.2 above
 
     -- the two shares read, by the rows of any shares
-    low-is : (R : Shares) → c.args.level ≤ R.height → Rows R c.args.levels.now.lows c.args.levels.now.highs → c.from-low.result ≡ R.low c.args.level
+    low-is : (R : Shares) → c.args.level ≤ R.height → Rows R c.args.lows.now c.args.highs.now → c.from-low.result ≡ R.low c.args.level
     low-is R h r = c.from-low.ensures ∙ r.low.is c.args.level h
 
-    high_is : (R : Shares) → c.args.level ≤ R.height → Rows R c.args.levels.now.lows c.args.levels.now.highs → c.from-high.result ≡ R.high c.args.level
+    high_is : (R : Shares) → c.args.level ≤ R.height → Rows R c.args.lows.now c.args.highs.now → c.from-high.result ≡ R.high c.args.level
     high_is R h r = c.from-high.ensures ∙ r.high.is c.args.level h
 
     may : Ranged half (c.requires.rows.0.low c.args.level) (c.requires.rows.0.high c.args.level) c.args.part.keys c.split-i.result
@@ -66,7 +66,7 @@ module _ (t : ℕ) where
         let r = c.requires.rows in
         both (λ x y. Ranged half x y c.args.part.keys c.split-i.result) (low-is r.0 r.2.level r.1) (high_is r.0 r.2.level r.1) c.split-i.ensures.range
 
-    share : (R : Shares) (ws : List ℕ) → c.args.level ≤ R.height → Rows R c.args.levels.now.lows c.args.levels.now.highs → Weighed ws c.args.part → c.split-i.result ≡ left_share R (c.args.level - 1) c.args.part.front (weights_in ws c.args.part)
+    share : (R : Shares) (ws : List ℕ) → c.args.level ≤ R.height → Rows R c.args.lows.now c.args.highs.now → Weighed ws c.args.part → c.split-i.result ≡ left_share R (c.args.level - 1) c.args.part.front (weights_in ws c.args.part)
     share R ws h r d =
         let e : c.args.level ≡ suc (c.args.level - 1) = omega (arith, above) in
         c.split-i.ensures.share R (c.args.level - 1) ws halved.power (low-is R h r ∙ ap R.low e) (high_is R h r ∙ ap R.high e) d

@@ -4,4 +4,4 @@ use Rattle.run.proofs.Readings.{same-totals, cut}
 use Rattle.run.proofs.totals.add_tally.Goals as goal
 
 pub returns : goal.returns
-returns c = same-totals (c.wrapping_add_u32.ensures.value ∙ cut _ _) (c.wrapping_add_u32-2.ensures.value ∙ cut _ _) (c.wrapping_add_u32-3.ensures.value ∙ cut _ _) (c.wrapping_add_u32-4.ensures.value ∙ cut _ _)
+returns c = same-totals (c.wrapping_add.ensures.value ∙ cut _ _) (c.wrapping_add-2.ensures.value ∙ cut _ _) (c.wrapping_add-3.ensures.value ∙ cut _ _) (c.wrapping_add-4.ensures.value ∙ cut _ _)

@@ -6,7 +6,7 @@ use Rattle.run.proofs.totals.difference.Goals as goal
 pub returns : goal.returns
 returns c =
     same-totals
-    (omega (arith, c.wrapping_sub_u32.ensures))
-    (omega (arith, c.wrapping_sub_u32-2.ensures))
-    (omega (arith, c.wrapping_sub_u32-3.ensures))
-    (omega (arith, c.wrapping_sub_u32-4.ensures))
+    (omega (arith, c.wrapping_sub.ensures))
+    (omega (arith, c.wrapping_sub-2.ensures))
+    (omega (arith, c.wrapping_sub-3.ensures))
+    (omega (arith, c.wrapping_sub-4.ensures))

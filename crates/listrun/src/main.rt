@@ -6,33 +6,6 @@ use rules::Totals;
 use std::io;
 use std::io::{BufWriter, Write};
 
-fn text(out: &mut impl Write, s: &[u8]) -> io::Result<()> {
-    out.write_all(s)
-}
-
-fn number(out: &mut impl Write, n: u64) -> io::Result<()> {
-    write!(out, "{n}")
-}
-
-fn counts(out: &mut impl Write, keys: u64, moved: u64, swept: u64, stop: u64) -> io::Result<()> {
-    text(out, b"keys ")?;
-    number(out, keys)?;
-    text(out, b" moved ")?;
-    number(out, moved)?;
-    text(out, b" swept ")?;
-    number(out, swept)?;
-    text(out, b" stop ")?;
-    number(out, stop)?;
-    text(out, b"\n")
-}
-
-fn segment(out: &mut impl Write, at: u64, keys: usize) -> io::Result<()> {
-    number(out, at)?;
-    text(out, b" ")?;
-    number(out, keys as u64)?;
-    text(out, b"\n")
-}
-
 fn main(rt: HostRuntime) -> io::Result<()> {
     let mut out = BufWriter::new(rt.alloc(), io::writer(&rt))?;
     let mut input = inputs::large_buffer();
@@ -47,7 +20,7 @@ fn main(rt: HostRuntime) -> io::Result<()> {
         moved: 0,
         sweeps: 0,
     };
-    let done = run::running::run_with(
+    let reply = run::running::run_with(
         1,
         &mut slots,
         &mut cards,
@@ -56,20 +29,18 @@ fn main(rt: HostRuntime) -> io::Result<()> {
         &input[..n],
         1000000,
         totals,
-    );
-    let reply = done.reply;
-    let tally = reply.tally;
-    let stop = reply.stop;
-    counts(
-        &mut out,
-        table[6] as u64,
-        tally.moves,
-        tally.sweeps as u64,
-        words::numbers::verdict_number(stop),
+    )
+    .reply;
+    writeln!(
+        out,
+        "keys {} moved {} swept {} stop {}",
+        table[6],
+        reply.tally.moves,
+        reply.tally.sweeps,
+        words::numbers::verdict_number(reply.stop)
     )?;
-    segment(&mut out, 0, table[0])?;
-    segment(&mut out, 1, table[1])?;
-    segment(&mut out, 2, table[2])?;
-    segment(&mut out, 3, table[3])?;
+    for (at, keys) in table[..4].iter().enumerate() {
+        writeln!(out, "{at} {keys}")?;
+    }
     out.flush()
 }

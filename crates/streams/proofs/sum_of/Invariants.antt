@@ -1,10 +1,6 @@
--- `sum_of` is safe and ends. The loop's invariant: the sum stays below its modulus.
-use Prim.Native.Nat.{◌-◌, ◌≤◌, ◌<◌}
-use lib.ListN.{length}
+-- `sum_of` is safe. The loop's invariant: the sum stays below its modulus.
+use Rattle.std.proofs.Common.{◌<◌}
 use Rattle.streams.proofs.sum_of.Given as goal
 
-abbrev pub invariant-loop-i : goal.invariant-loop-i
-invariant-loop-i l = (l.sum < 1000003) × (l.i ≤ length l.cards)
-
-abbrev pub decreases-loop-i : goal.decreases-loop-i
-decreases-loop-i l = length l.cards - l.i
+abbrev pub invariant-loop-card : goal.invariant-loop-card
+invariant-loop-card l = l.sum < 1000003

@@ -1,9 +1,0 @@
--- `number_at` is safe and ends. The loop's invariant: at most 8 bytes are read.
-use Prim.Native.Nat.{◌-◌, ◌≤◌}
-use Rattle.trials.proofs.number_at.Given as goal
-
-abbrev pub invariant-loop-i : goal.invariant-loop-i
-invariant-loop-i l = l.i ≤ 8
-
-abbrev pub decreases-loop-i : goal.decreases-loop-i
-decreases-loop-i l = 8 - l.i

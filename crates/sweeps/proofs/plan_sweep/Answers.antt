@@ -68,8 +68,8 @@ whole-part-requires c =
     let m = marked (goal.at.whole-part-requires c).After-front_weight-front c.requires.by_index.2 c.requires.by_index.3 in
     (omega (arith, m.few, length-map (take c.mark-r.result c.mark-r.new.row) (λ m. m.place)), m.small, front-small c.requires.by_index.2 c.requires.le_level.0 c.power-n.ensures.0 refl c.requires.by_index.3 c.front_weight-front.ensures)
 
-pub slice_bounds-plan_window-end-2 : goal.slice_bounds-plan_window-end-2
-slice_bounds-plan_window-end-2 c = sym (buffer (goal.at.slice_bounds-plan_window-end-2 c).Start c.power-n.ensures.1)
+pub slice_bounds-plan_window-end-4 : goal.slice_bounds-plan_window-end-4
+slice_bounds-plan_window-end-4 c = sym (buffer (goal.at.slice_bounds-plan_window-end-4 c).Start c.power-n.ensures.1)
 
 pub plan_window-requires : goal.plan_window-requires
 plan_window-requires c =

@@ -3,7 +3,7 @@ use mathlib.Core.Path.{◌≡◌, refl, sym, ap, ap₂, subst, ◌∙◌}
 use mathlib.Core.Bool.{true, false, not}
 use mathlib.Core.Logic.{◌≢◌}
 use mathlib.Core.Option.{some}
-use Rattle.std.specs.Prelude.{Option, None, Some, unwrap_or}
+use Rattle.std.specs.Prelude.{Option, None, Some, Result, Ok, Err}
 use mathlib.Core.List.{List, []}
 use Prim.Native.Nat.{ℕ, ◌+◌, ◌-◌, ◌^◌, ◌≤◌, ◌<◌}
 use native.Mathlib.Omega.{arith}
@@ -18,6 +18,7 @@ use Rattle.slots.proofs.Keys.{not-member, in-part}
 use Rattle.slots.proofs.Seats.{seat-free, seat-member}
 use Rattle.slots.proofs.ByPlace.{above_new}
 use Rattle.forecast.specs.declared.Forecast.{Forecast}
+use Rattle.rules.specs.declared.Refusal.{Refusal}
 use Rattle.rules.specs.declared.Refusal.TheVariants.{KeyZero, KeyPresent, Full}
 use Rattle.rules.specs.declared.Request.{Request}
 use Rattle.rules.specs.declared.Request.TheVariants.{Insert}
@@ -36,7 +37,7 @@ use Rattle.seeking.specs.Spots.{Spotted}
 use Rattle.climbs.specs.declared.Climb.{Climb}
 use Rattle.climbs.specs.Climbs.{Climbed}
 use Rattle.aims.specs.declared.Aim.{Aim}
-use Rattle.aims.specs.Aims.{Stands, refused_aim, Aimed}
+use Rattle.aims.specs.Aims.{Stands, Aimed}
 use Rattle.aims.proofs.Standing.{lawful-stands, good-stands, shows-stands, segments-stand, keys-stand, right-stands}
 use Rattle.aims.proofs.Places.{some-segments, place_in, place-held, place_at, place-rising}
 use Rattle.aims.proofs.Answers.{none-some, level-some, aimed-refused, aimed-accepted, key_aim}
@@ -51,16 +52,16 @@ module _ {slots : List ℕ} {F : Forecast} {k : Shape} {n : ℕ} (s : Stands slo
   abbrev R : Room
   R = room_of slots F
 
-  abbrev Comes : Request → Aim → Type 0
+  abbrev Comes : Request → Result Aim Refusal → Type 0
   Comes q r = Aimed S q R r
 
   -- key 0
-  pub in-zero : {y : ℕ} → y ≡ 0 → Comes (Insert y) (refused_aim KeyZero)
+  pub in-zero : {y : ℕ} → y ≡ 0 → Comes (Insert y) (Err KeyZero)
   in-zero {y} e = aimed-refused S (Insert y) R KeyZero (outcome-insert-zero S y R e)
 
   module _ {y : ℕ} (z : y ≢ 0) {p : Spot} (found : Spotted y ss slots p) where
     -- a key that is there
-    pub in-present : p.place.present ≡ true → Comes (Insert y) (refused_aim KeyPresent)
+    pub in-present : p.place.present ≡ true → Comes (Insert y) (Err KeyPresent)
     in-present t =
         let m : member y (keys ss) ≡ true = sym found.place.present ∙ t in
         aimed-refused S (Insert y) R KeyPresent (outcome-insert-present S y R z (rw m tt))
@@ -71,7 +72,7 @@ module _ {slots : List ℕ} {F : Forecast} {k : Shape} {n : ℕ} (s : Stands slo
       fresh = let m : member y (keys ss) ≡ false = sym found.place.present ∙ t in rw m tt
 
       -- a full list
-      pub in-full : k.capacity ≤ n → Comes (Insert y) (refused_aim Full)
+      pub in-full : k.capacity ≤ n → Comes (Insert y) (Err Full)
       in-full c = aimed-refused S (Insert y) R Full (outcome-insert-full S y R z fresh (omega (arith, s.shape.capacity, keys-stand s)))
 
       module _ (c : n < k.capacity) where
@@ -94,7 +95,7 @@ module _ {slots : List ℕ} {F : Forecast} {k : Shape} {n : ℕ} (s : Stands slo
             ∙ above_new y (get_or ss p.place.segment []) (place-rising s found.place) (rw e fresh)
             ∙ ap₂ (λ (a b : ℕ). a - b) (sym (place-held s found.place)) (sym (place_at s found.place))
 
-        pub in-shifted : p.place.held < k.high → Comes (Insert y) (key_aim true y p.before p 0 (p.place.held - p.place.at + 1))
+        pub in-shifted : p.place.held < k.high → Comes (Insert y) (Ok (key_aim true y p.before p 0 (p.place.held - p.place.at + 1)))
         unfolding insert_level
         in-shifted room =
             let h : length (get_or ss (home y ss) []) < S.high 0 = omega (arith, there, s.shape.high) in
@@ -122,16 +123,13 @@ module _ {slots : List ℕ} {F : Forecast} {k : Shape} {n : ℕ} (s : Stands slo
           taken : chosen S (home y ss) (put_in y ss) ≡ some window.0
           taken = ((climb_is S (home y ss) (put_in y ss)).0 window.0).1 window.2
 
-          -- it is what the climb finds
-          found-some : (c : Climb) × (r ≡ Some c)
-          found-some = elim r as (λ (o : Option Climb). Climbed S (home y ss) (put_in y ss) o → (c : Climb) × (o ≡ Some c)) [
-            | Some c ↦ λ _. (c, refl)
-            | None ↦ λ k. absurd (none-some (sym k ∙ taken))
-          ] known
+          -- the climb finds one
+          pub in-some : r ≡ None → ⊥
+          in-some e = none-some (sym (subst (λ (o : Option Climb). Climbed S (home y ss) (put_in y ss) o) e known) ∙ taken)
 
-          pub in-swept : (d c : Climb) → c ≡ unwrap_or r d → Comes (Insert y) (key_aim true y p.before p c.level c.keys)
-          in-swept d c e =
-              let is : r ≡ Some c = found-some.1 ∙ ap (λ (v : Climb). Some v) (sym (e ∙ ap (λ (o : Option Climb). unwrap_or o d) found-some.1)) in
+          -- this one
+          pub in-swept : {c : Climb} → r ≡ Some c → Comes (Insert y) (Ok (key_aim true y p.before p c.level c.keys))
+          in-swept {c = c} is =
               let here : Climbed S (home y ss) (put_in y ss) (Some c) = subst (λ (o : Option Climb). Climbed S (home y ss) (put_in y ss) o) is known in
               let same : some c.level ≡ some window.0 = sym here.0 ∙ taken in
               let level : c.level ≡ window.0 = cc in

@@ -3,7 +3,7 @@ use mathlib.Core.Path.{◌≡◌, refl, sym, ap, ap₂, subst, ◌∙◌}
 use mathlib.Core.Bool.{true, false, true≢false}
 use mathlib.Core.Logic.{◌≢◌}
 use mathlib.Core.Option.{none}
-use Rattle.std.specs.Prelude.{Option, None, Some}
+use Rattle.std.specs.Prelude.{Option, None, Some, Result, Ok, Err}
 use mathlib.Core.List.{List, [], Memᴰ as Mem}
 use Prim.Native.Nat.{ℕ, ◌+◌, ◌-◌, ◌^◌, ◌≤◌, ◌<◌}
 use native.Mathlib.Omega.{arith}
@@ -17,6 +17,7 @@ use Rattle.slots.proofs.Keys.{member→mem, segment-mem}
 use Rattle.slots.proofs.Seats.{seat-live}
 use Rattle.slots.proofs.ByPlace.{above-old, place-old}
 use Rattle.forecast.specs.declared.Forecast.{Forecast}
+use Rattle.rules.specs.declared.Refusal.{Refusal}
 use Rattle.rules.specs.declared.Refusal.TheVariants.{KeyZero, KeyAbsent}
 use Rattle.rules.specs.declared.Request.{Request}
 use Rattle.rules.specs.declared.Request.TheVariants.{Delete}
@@ -34,7 +35,7 @@ use Rattle.seeking.specs.Spots.{Spotted}
 use Rattle.climbs.specs.declared.Climb.{Climb}
 use Rattle.climbs.specs.Climbs.{Climbed}
 use Rattle.aims.specs.declared.Aim.{Aim}
-use Rattle.aims.specs.Aims.{Stands, refused_aim, level_at, Aimed}
+use Rattle.aims.specs.Aims.{Stands, level_at, Aimed}
 use Rattle.aims.proofs.Standing.{shows-stands, segments-stand, right-stands}
 use Rattle.aims.proofs.Places.{place-held, place_at, place-rising}
 use Rattle.aims.proofs.Answers.{level-some, aimed-refused, aimed-accepted, key_aim}
@@ -49,16 +50,16 @@ module _ {slots : List ℕ} {F : Forecast} {k : Shape} {n : ℕ} (s : Stands slo
   abbrev R : Room
   R = room_of slots F
 
-  abbrev Comes : Request → Aim → Type 0
+  abbrev Comes : Request → Result Aim Refusal → Type 0
   Comes q r = Aimed S q R r
 
   -- key 0
-  pub out-zero : {y : ℕ} → y ≡ 0 → Comes (Delete y) (refused_aim KeyZero)
+  pub out-zero : {y : ℕ} → y ≡ 0 → Comes (Delete y) (Err KeyZero)
   out-zero {y} e = aimed-refused S (Delete y) R KeyZero (outcome-delete-zero S y R e)
 
   module _ {y : ℕ} (z : y ≢ 0) {p : Spot} (found : Spotted y ss slots p) where
     -- a key that is not there
-    pub out-absent : p.place.present ≡ false → Comes (Delete y) (refused_aim KeyAbsent)
+    pub out-absent : p.place.present ≡ false → Comes (Delete y) (Err KeyAbsent)
     out-absent t =
         let m : member y (keys ss) ≡ false = sym found.place.present ∙ t in
         aimed-refused S (Delete y) R KeyAbsent (outcome-delete-absent S y R z (rw m tt))
@@ -105,7 +106,7 @@ module _ {slots : List ℕ} {F : Forecast} {k : Shape} {n : ℕ} (s : Stands slo
           ∙ above-old y (get_or ss p.place.segment []) (place-rising s found.place) mem-there
           ∙ ap₂ (λ (a b : ℕ). a - b - 1) (sym (place-held s found.place)) (sym (place_at s found.place))
 
-      pub out-shifted : delete_level S y ss ≡ none → Comes (Delete y) (key_aim false y 0 p 0 (p.place.held - p.place.at - 1))
+      pub out-shifted : delete_level S y ss ≡ none → Comes (Delete y) (Ok (key_aim false y 0 p 0 (p.place.held - p.place.at - 1)))
       out-shifted u = aimed-accepted s found false 0 0 _ (delete-stays S y R z live u) refl (sym above-there) at-seat no-before u
 
       -- where its segment keeps its low share
@@ -144,5 +145,5 @@ module _ {slots : List ℕ} {F : Forecast} {k : Shape} {n : ℕ} (s : Stands slo
               rw (lt-ltb (length (cut y (get_or ss (segment_of ss y) []))) (S.low 0) under)
               (taken.0 ∙ level-some c.level (((climb_is S (segment_of ss y) (cut_from y ss)).0 c.level).0 taken.0).from)
 
-          pub out-swept : Comes (Delete y) (key_aim false y 0 p c.level c.keys)
+          pub out-swept : Comes (Delete y) (Ok (key_aim false y 0 p c.level c.keys))
           out-swept = aimed-accepted s found false 0 c.level c.keys (delete-swept S y R z live c.level under taken.0) refl taken.1 at-seat no-before swept-level

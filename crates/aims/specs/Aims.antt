@@ -1,12 +1,12 @@
 -- What a request comes to, by the rules, on a list and forecast that have passed their check.
-use Rattle.std.specs.Prelude.{ℕ, zero, suc, ◌≡◌, Bool, true, false, List, [], length, get_or, Err, Ok}
+use Rattle.std.specs.Prelude.{ℕ, zero, suc, ◌≡◌, Bool, true, false, List, [], length, get_or, Result, Err, Ok}
 use Rattle.std.proofs.Math.Option.{Option, none, some}
 use Rattle.slots.specs.Segments.{Segments, live, height_of, segments_of}
 use Rattle.slots.specs.Keys.{below, predecessor, segment_of}
 use Rattle.forecast.specs.declared.Forecast.{Forecast}
 use Rattle.rules.specs.declared.Refusal.{Refusal}
 use Rattle.rules.specs.declared.Request.{Request}
-use Rattle.rules.specs.Refusals.{verdict_number}
+use Rattle.rules.specs.Refusals.{refusal_number}
 use Rattle.rules.specs.Shares.{Shares}
 use Rattle.rules.specs.Placing.{Room, home, insert_level, delete_level, outcome}
 use Rattle.rules.specs.Profiles.{number_of}
@@ -29,9 +29,6 @@ pub record Known (slots bounds table : List ℕ) (k : Shape) (n : ℕ) : Type 0 
   pub forecast : Forecast
   pub stands : Stands slots forecast k n
   pub index : Indexed (segments_of slots) slots bounds table
-
-abbrev pub refused_aim : Refusal → Aim
-refused_aim x = record { verdict = Err x; grows = false; key = 0; before = 0; segment = 0; at = 0; held = 0; level = 0; moves = 0 }
 
 -- Of the request that puts a key in, or takes it out: the segment that it falls in, and the level that it sweeps.
 abbrev pub seat_for : Bool → ℕ → Segments → ℕ
@@ -56,9 +53,14 @@ pub record Accepts (S : Shares) (R : Room) (r : Aim) : Type 0 where
   pub before : r.grows ≡ true → r.before ≡ predecessor r.key R.segments
   pub level : level_for S r.grows r.key R.segments ≡ level_at r.level
 
--- The number and the moves of any request; where it is accepted, the rest.
-pub record Aimed (S : Shares) (q : Request) (R : Room) (r : Aim) : Type 0 where
-  pub number : verdict_number r.verdict ≡ (outcome S q R).answer.number
+-- The request q, accepted.
+pub record Aiming (S : Shares) (q : Request) (R : Room) (r : Aim) : Type 0 where
+  pub number : 0 ≡ (outcome S q R).answer.number
   pub moves : r.moves ≡ (outcome S q R).answer.moves
-  pub request : r.verdict ≡ Ok tt → q ≡ asked r.grows r.key
-  pub work : r.verdict ≡ Ok tt → Accepts S R r
+  pub request : q ≡ asked r.grows r.key
+  pub work : Accepts S R r
+
+-- The number and the moves of any request; where it is accepted, the rest.
+abbrev pub Aimed : Shares → Request → Room → Result Aim Refusal → Type 0
+Aimed S q R (Err x) = (refusal_number x ≡ (outcome S q R).answer.number) × (0 ≡ (outcome S q R).answer.moves)
+Aimed S q R (Ok r) = Aiming S q R r

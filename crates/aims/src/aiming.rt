@@ -4,52 +4,40 @@ ghost use Rattle.forecast.specs.declared.Forecast.{Forecast};
 ghost use Rattle.rules.specs.declared.Request.{Request};
 ghost use Rattle.shares.specs.Rows.{shares_at};
 ghost use Rattle.rules.specs.Calls.{room_of};
-ghost use Rattle.aims.specs.Aims.{Known, Stands, refused_aim, Aimed};
+ghost use Rattle.aims.specs.Aims.{Known, Stands, Aimed};
 
 use crate::Aim;
-use climbs::Climb;
 use rules::{Refusal, Request};
 use shares::Shape;
 
-// A request that is refused.
-fn refuse(refusal: Refusal) -> Aim
-    ensures { result ≡ refused_aim refusal }
-{
-    Aim {
-        verdict: Err(refusal),
-        grows: false,
-        key: 0,
-        before: 0,
-        segment: 0,
-        at: 0,
-        held: 0,
-        level: 0,
-        moves: 0,
-    }
-}
-
 // An insert: of the room before it, refusals 5, 6 and 8, or the key's place, and the window to sweep where its segment has no room.
-fn aim_in(list: &[u64], table: &[usize], bounds: &[u64], shape: Shape, key: u64, keys: usize) -> Aim
+fn aim_in(
+    list: &[u64],
+    table: &[usize],
+    bounds: &[u64],
+    shape: Shape,
+    key: u64,
+    keys: usize,
+) -> Result<Aim, Refusal>
     requires { Known list.now bounds.now table.now shape keys }
     ensures { (F : Forecast) → Stands list.now F shape keys → Aimed (shares_at shape) (Request.Insert key) (room_of list.now F) result }
 {
     if key == 0 {
-        return refuse(Refusal::KeyZero);
+        return Err(Refusal::KeyZero);
     }
     let spot = seeking::finding::spot(list, table, bounds, key);
     let place = spot.place;
     if place.present {
-        return refuse(Refusal::KeyPresent);
+        return Err(Refusal::KeyPresent);
     }
     if shape.capacity <= keys {
-        return refuse(Refusal::Full);
+        return Err(Refusal::Full);
     }
     let held = place.held;
     let at = place.at;
     let segment = place.segment;
     if held < shape.high {
-        return Aim {
-            verdict: Ok(()),
+        return Ok(Aim {
             grows: true,
             key,
             before: spot.before,
@@ -58,13 +46,13 @@ fn aim_in(list: &[u64], table: &[usize], bounds: &[u64], shape: Shape, key: u64,
             held,
             level: 0,
             moves: held - at + 1,
-        };
+        });
     }
     // There is a window, since the list is not full.
-    let none = Climb { level: 0, keys: 0 };
-    let found = climbs::climbing::climb(table, shape, segment, 1, 0).unwrap_or(none);
-    Aim {
-        verdict: Ok(()),
+    let Some(found) = climbs::climbing::climb(table, shape, segment, 1, 0) else {
+        unreachable!()
+    };
+    Ok(Aim {
         grows: true,
         key,
         before: spot.before,
@@ -73,7 +61,7 @@ fn aim_in(list: &[u64], table: &[usize], bounds: &[u64], shape: Shape, key: u64,
         held,
         level: found.level,
         moves: found.keys,
-    }
+    })
 }
 
 // A delete: refusals 5 and 7, or the key's place, and the window to sweep where its segment falls under its low share, if there is one.
@@ -84,25 +72,24 @@ fn aim_out(
     shape: Shape,
     key: u64,
     keys: usize,
-) -> Aim
+) -> Result<Aim, Refusal>
     requires { Known list.now bounds.now table.now shape keys }
     ensures { (F : Forecast) → Stands list.now F shape keys → Aimed (shares_at shape) (Request.Delete key) (room_of list.now F) result }
 {
     if key == 0 {
-        return refuse(Refusal::KeyZero);
+        return Err(Refusal::KeyZero);
     }
     let spot = seeking::finding::spot(list, table, bounds, key);
     let place = spot.place;
     if !place.present {
-        return refuse(Refusal::KeyAbsent);
+        return Err(Refusal::KeyAbsent);
     }
     let held = place.held;
     let at = place.at;
     let segment = place.segment;
     if held <= shape.low {
         if let Some(found) = climbs::climbing::climb(table, shape, segment, 0, 1) {
-            return Aim {
-                verdict: Ok(()),
+            return Ok(Aim {
                 grows: false,
                 key,
                 before: 0,
@@ -111,11 +98,10 @@ fn aim_out(
                 held,
                 level: found.level,
                 moves: found.keys,
-            };
+            });
         }
     }
-    Aim {
-        verdict: Ok(()),
+    Ok(Aim {
         grows: false,
         key,
         before: 0,
@@ -124,7 +110,7 @@ fn aim_out(
         held,
         level: 0,
         moves: held - at - 1,
-    }
+    })
 }
 
 // What a request comes to. A bad record is refused.
@@ -135,13 +121,13 @@ pub fn aim(
     shape: Shape,
     request: Request,
     keys: usize,
-) -> Aim
+) -> Result<Aim, Refusal>
     requires { Known list.now bounds.now table.now shape keys }
     ensures { (F : Forecast) → Stands list.now F shape keys → Aimed (shares_at shape) request (room_of list.now F) result }
 {
     match request {
         Request::Insert(key) => aim_in(list, table, bounds, shape, key, keys),
         Request::Delete(key) => aim_out(list, table, bounds, shape, key, keys),
-        Request::Bad => refuse(Refusal::BadRecord),
+        Request::Bad => Err(Refusal::BadRecord),
     }
 }

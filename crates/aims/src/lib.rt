@@ -3,13 +3,10 @@
 
 pub mod aiming;
 
-use rules::Verdict;
-
-// What a request comes to: refused, or accepted, and then whether a key is put in or taken out, which, the key before it, its segment and its
-// place there, the keys held there, the level of the window to sweep (0 for none), and the moves.
-#[derive(Clone, Copy)]
+// What an accepted request comes to: whether a key is put in or taken out, which, the key before it, its segment and its place there, the
+// keys held there, the level of the window to sweep (0 for none), and the moves.
+#[derive(Clone, Copy, PartialEq, Eq, Debug)]
 pub struct Aim {
-    pub verdict: Verdict,
     pub grows: bool,
     pub key: u64,
     pub before: u64,

@@ -40,6 +40,7 @@ pub type InsertReply = Reply<u64>;
 #[derive(Clone, Copy, PartialEq, Eq, Debug)]
 pub struct Deleted {
     pub moves: u64,
+    // A flag beside the moves: they count whether or not the list is sparse.
     pub sparse: bool,
 }
 

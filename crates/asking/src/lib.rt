@@ -14,6 +14,7 @@ pub struct Reply {
     pub forecast: Forecast,
     pub verdict: Verdict,
     pub moves: u64,
+    // A flag beside the moves: they count whether or not the list is sparse.
     pub sparse: bool,
 }
 
@@ -50,15 +51,7 @@ pub fn ask(
 {
     let bytes = records::bytes_of(grows, key, card);
     let n = records::size_of(grows);
-    let worked = opening::work_lent(
-        profile,
-        list,
-        cards,
-        table,
-        forecast,
-        &bytes[..n],
-        18446744073709551615,
-    );
+    let worked = opening::work_lent(profile, list, cards, table, forecast, &bytes[..n], u64::MAX);
     let after = worked.forecast;
     let tally = worked.tally;
     let last = worked.last;

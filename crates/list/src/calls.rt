@@ -1,4 +1,5 @@
 // The public calls that change no list: make, check, lookup and scan. They ask nothing of what they are lent.
+// A profile is any number: the check refuses one that names none.
 ghost use Rattle.rules.specs.Lent.{lend};
 ghost use Rattle.answers.specs.Admits.{MakeAdmits, CheckAdmits, LookupAdmits, ScanAdmits};
 

@@ -1,4 +1,5 @@
 // The public calls that change a list: insert and delete. They ask nothing of what they are lent.
+// Two and not one: a delete has no card, and tells one value more.
 ghost use Rattle.rules.specs.Lent.{lend};
 ghost use Rattle.answers.specs.Admits.{InsertAdmits, DeleteAdmits};
 

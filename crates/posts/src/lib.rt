@@ -1,4 +1,5 @@
 // What insert, delete and a run have come to, written into the words that a C program lends.
+// Insert and delete apart: a delete tells one word more, and their answers are of two types.
 #![tactic(auto)]
 
 ghost use Rattle.std.specs.Prelude.{◌≡◌, ◌≤◌, length};

@@ -33,7 +33,8 @@ pub fn tell_tally(tally: Tally, reply: &mut [u64])
     reply[..4].copy_from_slice(&words);
 }
 
-// Whether a call with this number has worked on what it was lent: done, or stopped after earlier work.
+// Whether a call with this number has worked on what it was lent: done, or stopped after earlier work. By the number itself, since no
+// verdict is at hand here.
 fn works_on(number: u64) -> bool
     ensures { result ≡ works_on number }
 {

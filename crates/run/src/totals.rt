@@ -1,4 +1,4 @@
-// The four totals of runs, each modulo 2^32.
+// The four totals of runs, each modulo 2^32. Two functions: one adds a tally, cut to 32 bits, the other subtracts totals.
 ghost use Rattle.std.specs.Prelude.{◌≡◌};
 ghost use Rattle.rules.specs.Runs.{added};
 ghost use Rattle.run.specs.Sums.{since};

@@ -1,5 +1,5 @@
 -- The cards after one turn of a run: each stands beside its key again, and beside a key put in the card that came with it.
-use Rattle.std.proofs.Common.{Ok}
+use Rattle.std.proofs.Common.{Result, Ok}
 use mathlib.Core.Path.{◌≡◌, sym, ◌∙◌, subst}
 use mathlib.Core.Bool.{Bool, true, false}
 use mathlib.Core.List.{List, map}
@@ -7,6 +7,7 @@ use Prim.Native.Nat.{ℕ}
 use lib.Dec.{T}
 use Rattle.lists.proofs.Tests.{eq→eqb}
 use Rattle.forecast.specs.declared.Forecast.{Forecast}
+use Rattle.rules.specs.declared.Refusal.{Refusal}
 use Rattle.rules.specs.declared.Request.{Request}
 use Rattle.rules.specs.declared.Request.TheVariants.{Insert}
 use Rattle.rules.specs.Shares.{Shares}
@@ -18,10 +19,9 @@ use Rattle.demands.proofs.Requests.CardsKept.{beside-before, in_after}
 use Rattle.shares.specs.declared.Shape.{Shape}
 use Rattle.shares.specs.Rows.{shares_at}
 use Rattle.aims.specs.declared.Aim.{Aim}
+use Rattle.aims.specs.Aims.{Aiming, Aimed}
 use Rattle.aims.proofs.Standing.{good-stands, shows-stands}
 use Rattle.records.specs.Asked.{asked}
-use Rattle.tallies.specs.Counted.{is_accepted}
-use Rattle.tallies.proofs.Verdicts.{accepted-is}
 use Rattle.steps.specs.Works.{Turning}
 
 -- whatever stood beside the keys stands beside them again, with v beside a key put in
@@ -35,7 +35,7 @@ put-beside : (S : Shares) (b : Bool) (y v : ℕ) (own : ℕ → ℕ) (R : Room) 
 put-beside S true y v own R z g = in_after S R v own y (eq→eqb (outcome S (Insert y) R).answer.number 0 z)
 put-beside S false y v own R z g = absurd (subst T (sym g) tt)
 
-module _ {slots : List ℕ} {F : Forecast} {bounds table : List ℕ} {k : Shape} {q : Request} {n : ℕ} {r : Aim} (t : Turning slots F bounds table k q n r)
+module _ {slots : List ℕ} {F : Forecast} {bounds table : List ℕ} {k : Shape} {q : Request} {n : ℕ} {r : Result Aim Refusal} (t : Turning slots F bounds table k q n r)
     (own : ℕ → ℕ) (v : ℕ) {cards : List ℕ} (b : cards ≡ cards_beside own slots) where
   -- the card of each key then
   abbrev then : ℕ → ℕ
@@ -48,11 +48,11 @@ module _ {slots : List ℕ} {F : Forecast} {bounds table : List ℕ} {k : Shape}
       ∙ sym (subst (λ (l : List ℕ). cards_beside then l ≡ cards_beside own l) (sym (shows-stands t.stands).whole)
       (beside-before (shares_at k) (room_of slots F) v own q (good-stands t.stands).proper))
 
-  pub cards-accepted : is_accepted r.verdict ≡ true → (slots' cards' : List ℕ) → Carries r v slots cards slots' cards' → cards' ≡ cards_beside then slots'
-  cards-accepted e slots' cards' carries = carries (card_in then) (in-gap then) put (cards-refused ∙ beside-map then slots) ∙ sym (beside-map then slots')
+  pub cards-accepted : {a : Aim} → r ≡ Ok a → (slots' cards' : List ℕ) → Carries a v slots cards slots' cards' → cards' ≡ cards_beside then slots'
+  cards-accepted {a = a} e slots' cards' carries = carries (card_in then) (in-gap then) put (cards-refused ∙ beside-map then slots) ∙ sym (beside-map then slots')
     where
-      is : r.verdict ≡ Ok tt
-      is = accepted-is r.verdict e
+      aimed : Aiming (shares_at k) q (room_of slots F) a
+      aimed = subst (Aimed (shares_at k) q (room_of slots F)) e t.aimed
 
-      put : r.grows ≡ true → card_in then r.key ≡ v
-      put = rw (t.aimed.request is) (put-beside (shares_at k) r.grows r.key v own (room_of slots F) (t.aimed.work is).accepted)
+      put : a.grows ≡ true → card_in then a.key ≡ v
+      put = rw aimed.request (put-beside (shares_at k) a.grows a.key v own (room_of slots F) aimed.work.accepted)

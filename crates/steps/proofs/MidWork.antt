@@ -1,8 +1,8 @@
 -- The work of a run in the middle of its records: what has been counted keeps within bounds, and the whole run of the rules is the work that
 -- is left.
-use Rattle.std.proofs.Common.{Err, Ok}
+use Rattle.std.proofs.Common.{Result, Err, Ok}
 use mathlib.Core.Path.{◌≡◌, refl, sym, ap, ap₂, ◌∙◌, subst}
-use mathlib.Core.Bool.{Bool, true, false, not, ◌&&◌}
+use mathlib.Core.Bool.{Bool, true, false, not}
 use mathlib.Core.Logic.{inl, inr}
 use mathlib.Core.List.{List, [], ◌∷◌}
 use Prim.Native.Nat.{ℕ, ◌+◌, ◌-◌, ◌≤◌, ◌<◌, ◌^◌}
@@ -16,6 +16,7 @@ use Rattle.levels.specs.Tables.{table_of}
 use Rattle.forecast.specs.declared.Forecast.{Forecast}
 use Rattle.forecast.specs.Cells.{used_cells, forecast_of}
 use Rattle.forecast.specs.Tidy.{Roomy}
+use Rattle.rules.specs.declared.Refusal.{Refusal}
 use Rattle.rules.specs.declared.Refusal.TheVariants.{AllowancePassed}
 use Rattle.rules.specs.declared.Request.{Request}
 use Rattle.rules.specs.declared.Request.TheVariants.{Bad}
@@ -43,8 +44,8 @@ use Rattle.aims.specs.declared.Aim.{Aim}
 use Rattle.aims.specs.Aims.{Stands, Aimed}
 use Rattle.aims.proofs.Standing.{keys-stand, right-stands}
 use Rattle.steps.specs.declared.Worked.{Worked}
-use Rattle.tallies.specs.Counted.{is_stop, is_accepted, comes_to, next_of, keys_of}
-use Rattle.tallies.proofs.Verdicts.{told, stop-high, on-good, comes-over, comes-within}
+use Rattle.tallies.specs.Counted.{is_stop, is_accepted, is_swept, comes_to, verdict_of, moves_of, next_of, keys_of}
+use Rattle.tallies.proofs.Verdicts.{told, stop-high, on-good, comes-over, comes-within, aimed-number, aimed-moves}
 use Rattle.steps.specs.Works.{Turning, Turned, whole, Ends}
 use Rattle.steps.proofs.TurnOf.{low, bad-is, swept-turn}
 
@@ -194,12 +195,12 @@ next L N = record_of (drop N.tally.place L.bytes)
 abbrev asks : Lent → Now → Request
 asks L N = (next L N).request
 
-pub record AtRecord (L : Lent) (N : Now) (r : Aim) : Type 0 where
+pub record AtRecord (L : Lent) (N : Now) (r : Result Aim Refusal) : Type 0 where
   pub going : Going L N
   pub more : N.tally.place < length L.bytes
   pub aimed : Aimed (shares_at L.shape) (asks L N) (room_of N.slots N.forecast) r
 
-module _ {L : Lent} {N : Now} {r : Aim} (a : AtRecord L N r) where
+module _ {L : Lent} {N : Now} {r : Result Aim Refusal} (a : AtRecord L N r) where
   abbrev g : Going L N
   g = a.going
 
@@ -212,6 +213,12 @@ module _ {L : Lent} {N : Now} {r : Aim} (a : AtRecord L N r) where
   pub turning : Turning N.slots N.forecast N.bounds N.table L.shape (asks L N) N.keys r
   turning = record { stands = g.stands; shown = g.shown; index = g.index; aimed = a.aimed }
 
+  number-is : verdict_number (verdict_of r) ≡ (outcome (of L) q (room N)).answer.number
+  number-is = aimed-number (of L) q (room N) r a.aimed
+
+  moves-is : moves_of r ≡ (outcome (of L) q (room N)).answer.moves
+  moves-is = aimed-moves (of L) q (room N) r a.aimed
+
   here : work (of L) L.allowance (records_of (drop N.tally.place L.bytes)) (room N) g.own N.tally
       ≡ work (of L) L.allowance (next L N ∷ records_of (drop (N.tally.place + (next L N).size) L.bytes)) (room N) g.own N.tally
   here = ap (λ (l : List Record). work (of L) L.allowance l (room N) g.own t) (records-from t.place L.bytes a.more)
@@ -221,36 +228,36 @@ module _ {L : Lent} {N : Now} {r : Aim} (a : AtRecord L N r) where
   nearer e = omega (arith, ap (λ (z : Tally). z.place) e, a.more, size-some (drop N.tally.place L.bytes))
 
   -- before a record that is over the allowance
-  ends-over : L.allowance - t.moves < r.moves → Finish L N (back_at N (Err AllowancePassed))
+  ends-over : L.allowance - t.moves < moves_of r → Finish L N (back_at N (Err AllowancePassed))
   ends-over h =
-      ended g (Err AllowancePassed) (here ∙ work-over (of L) L.allowance (next L N) _ (room N) g.own t good (omega (arith, h, a.aimed.moves, g.moves)))
+      ended g (Err AllowancePassed) (here ∙ work-over (of L) L.allowance (next L N) _ (room N) g.own t good (omega (arith, h, moves-is, g.moves)))
       (λ e. absurd (omega (arith, e)))
     where
       good : T (not (is_bad q))
       good =
           elim (tested (is_bad q)) [
-            | inl b ↦ absurd (omega (arith, h, a.aimed.moves, ap (λ (z : Outcome). z.answer.moves) (bad-is (of L) q (room N) b)))
+            | inl b ↦ absurd (omega (arith, h, moves-is, ap (λ (z : Outcome). z.answer.moves) (bad-is (of L) q (room N) b)))
             | inr k ↦ k
           ]
 
   -- at a bad record
-  ends-stop : is_stop r.verdict ≡ true → Finish L N (back_at N r.verdict)
+  ends-stop : is_stop (verdict_of r) ≡ true → Finish L N (back_at N (verdict_of r))
   ends-stop e =
       elim (tested (is_bad q)) [
         | inl b ↦
-            let nine : verdict_number r.verdict ≡ 9 = a.aimed.number ∙ ap (λ (z : Outcome). z.answer.number) (bad-is (of L) q (room N) b) in
-            ended g r.verdict (here ∙ work-bad (of L) L.allowance (next L N) _ (room N) g.own t b ∙ ap (λ (m : ℕ). stopped m (room N) g.own t) (sym nine)) (λ z. absurd (omega (arith, nine, z)))
-        | inr k ↦ absurd (omega (arith, stop-high r.verdict e, a.aimed.number, low (of L) q (room N) k))
+            let nine : verdict_number (verdict_of r) ≡ 9 = number-is ∙ ap (λ (z : Outcome). z.answer.number) (bad-is (of L) q (room N) b) in
+            ended g (verdict_of r) (here ∙ work-bad (of L) L.allowance (next L N) _ (room N) g.own t b ∙ ap (λ (m : ℕ). stopped m (room N) g.own t) (sym nine)) (λ z. absurd (omega (arith, nine, z)))
+        | inr k ↦ absurd (omega (arith, stop-high (verdict_of r) e, number-is, low (of L) q (room N) k))
       ]
 
   -- either way, where it halts the run
   pub ends-halt : is_stop (comes_to (L.allowance - N.tally.moves) r) ≡ true
       → Finish L N (back_at N (comes_to (L.allowance - N.tally.moves) r))
   ends-halt e =
-      elim (dec_lt left r.moves) [
+      elim (dec_lt left (moves_of r)) [
         | yes h ↦ subst Back (sym (comes-over left r h)) (ends-over h)
         | no h ↦
-            let w : comes_to left r ≡ r.verdict = comes-within left r (omega arith) in
+            let w : comes_to left r ≡ verdict_of r = comes-within left r (omega arith) in
             subst Back (sym w) (ends-stop (sym (ap is_stop w) ∙ e))
       ]
     where
@@ -261,14 +268,14 @@ module _ {L : Lent} {N : Now} {r : Aim} (a : AtRecord L N r) where
       Back v = Finish L N (back_at N v)
 
 -- else it goes on
-pub record OnRecord (L : Lent) (N : Now) (r : Aim) : Type 0 where
+pub record OnRecord (L : Lent) (N : Now) (r : Result Aim Refusal) : Type 0 where
   pub at : AtRecord L N r
-  pub fit : r.moves ≤ L.allowance - N.tally.moves
-  pub on : is_stop r.verdict ≡ false
+  pub fit : moves_of r ≤ L.allowance - N.tally.moves
+  pub on : is_stop (verdict_of r) ≡ false
 
-pub on-record : {L : Lent} {N : Now} {r : Aim} → AtRecord L N r → is_stop (comes_to (L.allowance - N.tally.moves) r) ≡ false → OnRecord L N r
+pub on-record : {L : Lent} {N : Now} {r : Result Aim Refusal} → AtRecord L N r → is_stop (comes_to (L.allowance - N.tally.moves) r) ≡ false → OnRecord L N r
 on-record {L = L} {N = N} {r = r} a e =
-    elim (dec_lt left r.moves) [
+    elim (dec_lt left (moves_of r)) [
       | yes h ↦ absurd (subst T (sym (ap is_stop (comes-over left r h)) ∙ e) tt)
       | no h ↦ record { at = a; fit = omega arith; on = sym (ap is_stop (comes-within left r (omega arith))) ∙ e }
     ]
@@ -276,14 +283,14 @@ on-record {L = L} {N = N} {r = r} a e =
     left : ℕ
     left = L.allowance - N.tally.moves
 
-module _ {L : Lent} {N : Now} {r : Aim} (w : OnRecord L N r) where
+module _ {L : Lent} {N : Now} {r : Result Aim Refusal} (w : OnRecord L N r) where
   abbrev a : AtRecord L N r
   a = w.at
 
   ok : T (not (is_bad (asks L N)))
   ok =
       elim (tested (is_bad (asks L N))) [
-        | inl b ↦ absurd (on-good r.verdict w.on (a.aimed.number ∙ ap (λ (z : Outcome). z.answer.number) (bad-is (of L) (asks L N) (room N) b)))
+        | inl b ↦ absurd (on-good (verdict_of r) w.on (number-is a ∙ ap (λ (z : Outcome). z.answer.number) (bad-is (of L) (asks L N) (room N) b)))
         | inr k ↦ k
       ]
 
@@ -297,12 +304,12 @@ module _ {L : Lent} {N : Now} {r : Aim} (w : OnRecord L N r) where
         a.more,
       )
 
-  small : N.tally.moves + r.moves ≤ L.allowance
+  small : N.tally.moves + moves_of r ≤ L.allowance
   small = omega (arith, w.fit, a.going.moves)
 
   -- so its counts fit
   pub fits : length L.bytes < 2 ^ 64 → L.allowance < 2 ^ 64
-      → (N.tally.worked + 1 < 2 ^ 64) × (N.tally.refused + 1 < 2 ^ 64) × (N.tally.sweeps + 1 < 2 ^ 64) × (N.tally.place + (next L N).size < 2 ^ 64) × (N.tally.moves + r.moves < 2 ^ 64)
+      → (N.tally.worked + 1 < 2 ^ 64) × (N.tally.refused + 1 < 2 ^ 64) × (N.tally.sweeps + 1 < 2 ^ 64) × (N.tally.place + (next L N).size < 2 ^ 64) × (N.tally.moves + moves_of r < 2 ^ 64)
   fits b m = (
     omega (arith, a.going.worked, a.more),
     omega (arith, a.going.refused, a.going.worked, a.more),
@@ -314,8 +321,8 @@ module _ {L : Lent} {N : Now} {r : Aim} (w : OnRecord L N r) where
   counted : next_of N.tally r (next L N).size ≡ tallied (outcome (shares_at L.shape) (asks L N) (room_of N.slots N.forecast)) (next L N).size N.tally
   counted = λ i. record {
     worked = N.tally.worked + 1;
-    refused = N.tally.refused + one (((told r.verdict).1 ∙ ap (λ (k : ℕ). ltb 0 k) a.aimed.number) i);
-    moves = N.tally.moves + a.aimed.moves i;
+    refused = N.tally.refused + one (((told (verdict_of r)).1 ∙ ap (λ (k : ℕ). ltb 0 k) (number-is a)) i);
+    moves = N.tally.moves + moves-is a i;
     sweeps = N.tally.sweeps + one (swept-turn (turning a) i);
     place = N.tally.place + (next L N).size;
   }
@@ -325,7 +332,7 @@ module _ {L : Lent} {N : Now} {r : Aim} (w : OnRecord L N r) where
   at_first e = ap (λ (m : ℕ). (record_of (drop m L.bytes)).size) e
 
   -- a single record is the one at the start
-  last : LastOf L r.verdict
+  last : LastOf L (verdict_of r)
   last p e =
       elim (dec_le (head L) N.tally.place) [
         | yes h ↦ absurd (omega (arith, h, a.more, (single-record L.bytes p e).2, ap (λ (z : Record). z.size) (single-record L.bytes p e).0))
@@ -333,7 +340,7 @@ module _ {L : Lent} {N : Now} {r : Aim} (w : OnRecord L N r) where
             let f = a.going.first (omega arith) in
             let same : next L N ≡ p = ap (λ (l : List Record). get_or l 0 (asking Bad 0 11))
             (sym (records-from N.tally.place L.bytes a.more) ∙ ap (λ (m : ℕ). records_of (drop m L.bytes)) f.0 ∙ e) in
-            a.aimed.number ∙ ap₂ (λ (z : Record) (R : Room). (outcome (of L) z.request R).answer.number) same f.1
+            number-is a ∙ ap₂ (λ (z : Record) (R : Room). (outcome (of L) z.request R).answer.number) same f.1
             ∙ ap (λ (S : Shares). (outcome S p.request (room_of L.slots L.forecast)).answer.number) (sym a.going.shares-lent)
       ]
 
@@ -358,7 +365,7 @@ module _ {L : Lent} {N : Now} {r : Aim} (w : OnRecord L N r) where
         bounds = bounds';
         table = table';
         keys = keys_of N.keys r;
-        last = r.verdict;
+        last = verdict_of r;
         tally = next_of N.tally r (next L N).size;
       })
   goes_on d b = record {
@@ -367,12 +374,12 @@ module _ {L : Lent} {N : Now} {r : Aim} (w : OnRecord L N r) where
     index = d.index;
     shares-lent = a.going.shares-lent;
     worked = omega (arith, a.going.worked, size-some (drop N.tally.place L.bytes));
-    refused = omega (arith, a.going.refused, one-le (not (is_accepted r.verdict)));
-    sweeps = omega (arith, a.going.sweeps, one-le (is_accepted r.verdict && ltb 0 r.level));
+    refused = omega (arith, a.going.refused, one-le (not (is_accepted (verdict_of r))));
+    sweeps = omega (arith, a.going.sweeps, one-le (is_swept r));
     moves = small;
     own = own_next;
     beside = b;
-    rest = a.going.rest ∙ here a ∙ work-on (of L) L.allowance (next L N) _ (room N) a.going.own N.tally ok (omega (arith, small, a.aimed.moves))
+    rest = a.going.rest ∙ here a ∙ work-on (of L) L.allowance (next L N) _ (room N) a.going.own N.tally ok (omega (arith, small, moves-is a))
         ∙ ap₂ (λ (R : Room) (z : Tally). work (of L) L.allowance (records_of (drop (N.tally.place + (next L N).size) L.bytes)) R own_next z) (sym d.room) (sym counted);
     first = λ h. absurd (omega (arith, h, past));
     single = λ _. last;

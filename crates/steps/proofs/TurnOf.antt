@@ -1,6 +1,6 @@
 -- One turn of a run: a request that has been decided, and acted on where it is accepted. List, forecast, bounds and table then stand again.
 use mathlib.Core.Path.{◌≡◌, refl, sym, ap, ap₂, ◌∙◌, subst}
-use mathlib.Core.Bool.{Bool, true, false, not, ◌&&◌}
+use mathlib.Core.Bool.{Bool, true, false, not}
 use mathlib.Core.Option.{Option}
 use mathlib.Core.List.{List}
 use Prim.Native.Nat.{ℕ, zero, suc, ◌+◌, ◌-◌, ◌≤◌}
@@ -8,7 +8,8 @@ use native.Mathlib.Omega.{arith}
 use lib.Dec.{T, ltb, leb, eqb}
 use lib.ListN.{length}
 use borrow.Author.Tests.{lt-ltb}
-use Rattle.std.proofs.Common.{if◌then◌else◌, Ok}
+use Rattle.std.proofs.Common.{if◌then◌else◌, Result, Ok, Err}
+use Rattle.std.specs.Prelude.{IfOk}
 use Rattle.lists.proofs.Tests.{either, eq→eqb}
 use Rattle.slots.specs.Segments.{Segments, keys, live, height_of}
 use Rattle.slots.specs.Keys.{member}
@@ -17,6 +18,7 @@ use Rattle.cells.specs.declared.Cell.{Cell}
 use Rattle.forecast.specs.declared.Forecast.{Forecast}
 use Rattle.forecast.specs.Cells.{used_cells, forecast_of}
 use Rattle.forecast.proofs.Laws.{used-forecast_of}
+use Rattle.rules.specs.declared.Refusal.{Refusal}
 use Rattle.rules.specs.declared.Request.{Request}
 use Rattle.rules.specs.declared.Request.TheVariants.{Insert, Delete, Bad}
 use Rattle.rules.specs.declared.Profile.{Profile}
@@ -36,12 +38,11 @@ use Rattle.shares.specs.Rows.{shares_at}
 use Rattle.seats.specs.Bounds.{Indexed}
 use Rattle.aims.specs.declared.Aim.{Aim}
 use Rattle.records.specs.Asked.{asked}
-use Rattle.aims.specs.Aims.{Stands, level_for, level_at}
+use Rattle.aims.specs.Aims.{Stands, level_for, level_at, Aiming, Aimed}
 use Rattle.aims.proofs.Standing.{height-stands, lawful-stands, good-stands, keys-stand}
 use Rattle.sweeps.specs.Acts.{outcome_of, Acting, Acted}
-use Rattle.tallies.specs.Counted.{is_accepted, keys_of}
-use Rattle.tallies.proofs.Verdicts.{accepted-is, refused-some}
-use Rattle.tallies.proofs.Counts.{keys_kept}
+use Rattle.tallies.specs.Counted.{is_swept, keys_of}
+use Rattle.demands.proofs.Refusals.Told.{refusal-some}
 use Rattle.steps.specs.Works.{Turning, Turned}
 
 -- a room that is good in a profile is good in the profile of its number
@@ -104,7 +105,7 @@ pub some_key : (S : Shares) (b : Bool) (y : ℕ) (R : Room) (n : ℕ) → Good S
 some_key S true y R n G e z f = absurd (subst T f tt)
 some_key S false y R n G e z f = omega (arith, length-delete S y R G z, e)
 
-module _ {slots : List ℕ} {F : Forecast} {bounds table : List ℕ} {k : Shape} {q : Request} {n : ℕ} {r : Aim} (t : Turning slots F bounds table k q n r) where
+module _ {slots : List ℕ} {F : Forecast} {bounds table : List ℕ} {k : Shape} {q : Request} {n : ℕ} {r : Result Aim Refusal} (t : Turning slots F bounds table k q n r) where
   abbrev S : Shares
   S = shares_at k
 
@@ -112,59 +113,56 @@ module _ {slots : List ℕ} {F : Forecast} {bounds table : List ℕ} {k : Shape}
   R = room_of slots F
 
   -- REFUSED: nothing moves, and all is as it was
-  module _ (e : is_accepted r.verdict ≡ false) where
+  module _ {x : Refusal} (e : r ≡ Err x) where
     refused-turn : outcome S q R ≡ refused_by (outcome S q R).answer.number R
-    refused-turn = refused-is S q R (λ z. absurd (omega (arith, z, t.aimed.number, refused-some r.verdict e)))
-
-    pub refused-moves : r.moves ≡ 0
-    refused-moves = t.aimed.moves ∙ ap (λ (o : Outcome). o.answer.moves) refused-turn
+    refused-turn = refused-is S q R (λ z. absurd (omega (arith, z, (subst (Aimed S q R) e t.aimed).0, refusal-some x)))
 
     pub turned-refused : Turned (outcome S q R) slots F bounds table k (keys_of n r)
     turned-refused = record {
-      stands = subst (Stands slots F k) (sym (keys_kept n r e)) t.stands;
+      stands = subst (Stands slots F k) (sym (ap (keys_of n) e)) t.stands;
       shown = t.shown;
       index = t.index;
       room = sym (ap (λ (o : Outcome). o.room) refused-turn);
     }
 
-    swept-refused : (is_accepted r.verdict && ltb 0 r.level) ≡ (outcome S q R).swept
-    swept-refused = rw e (sym (ap (λ (o : Outcome). o.swept) refused-turn))
+    swept-refused : is_swept r ≡ (outcome S q R).swept
+    swept-refused = ap is_swept e ∙ sym (ap (λ (o : Outcome). o.swept) refused-turn)
 
   -- ACCEPTED: what acting asks for, and what it leaves
-  module _ (e : is_accepted r.verdict ≡ true) where
-    is : r.verdict ≡ Ok tt
-    is = accepted-is r.verdict e
+  module _ {a : Aim} (e : r ≡ Ok a) where
+    aimed : Aiming S q R a
+    aimed = subst (Aimed S q R) e t.aimed
 
-    same : outcome S q R ≡ outcome_of slots F k r
-    same = ap (λ (p : Request). outcome S p R) (t.aimed.request is)
+    same : outcome S q R ≡ outcome_of slots F k a
+    same = ap (λ (p : Request). outcome S p R) aimed.request
 
-    pub acting : Acting slots F bounds table k r
+    pub acting : Acting slots F bounds table k a
     acting = record {
       keys = n;
       stands = t.stands;
       index = t.index;
-      accepts = t.aimed.work is;
-      moves = t.aimed.moves ∙ ap (λ (o : Outcome). o.answer.moves) same;
+      accepts = aimed.work;
+      moves = aimed.moves ∙ ap (λ (o : Outcome). o.answer.moves) same;
     }
 
-    pub key-there : r.grows ≡ false → 1 ≤ n
-    key-there = some_key S r.grows r.key R n (good-stands t.stands) (keys-stand t.stands) acting.accepts.accepted
+    key-there : a.grows ≡ false → 1 ≤ n
+    key-there = some_key S a.grows a.key R n (good-stands t.stands) (keys-stand t.stands) acting.accepts.accepted
 
-    swept-accepted : (is_accepted r.verdict && ltb 0 r.level) ≡ (outcome S q R).swept
+    swept-accepted : is_swept r ≡ (outcome S q R).swept
     swept-accepted =
-        rw e (sym (ap (λ (o : Outcome). o.swept) same ∙ swept-level S r.grows r.key R r.level acting.accepts.accepted acting.accepts.level))
+        ap is_swept e ∙ sym (ap (λ (o : Outcome). o.swept) same ∙ swept-level S a.grows a.key R a.level acting.accepts.accepted acting.accepts.level)
 
-    good : Good S (outcome_of slots F k r).room
-    good = good-next S (lawful-stands t.stands) (asked r.grows r.key) R (good-stands t.stands)
+    good : Good S (outcome_of slots F k a).room
+    good = good-next S (lawful-stands t.stands) (asked a.grows a.key) R (good-stands t.stands)
 
-    many : length (keys (outcome_of slots F k r).room.segments) ≡ keys_of n r
+    many : length (keys (outcome_of slots F k a).room.segments) ≡ keys_of n r
     many =
-        rw e (keys-then S r.grows r.key R n (good-stands t.stands) (keys-stand t.stands) acting.accepts.accepted)
+        keys-then S a.grows a.key R n (good-stands t.stands) (keys-stand t.stands) acting.accepts.accepted ∙ sym (ap (keys_of n) e)
 
-    pub turned-accepted : {slots' bounds' table' : List ℕ} {F' : Forecast} → Acted (outcome_of slots F k r) slots' bounds' table' F'
+    pub turned-accepted : {slots' bounds' table' : List ℕ} {F' : Forecast} → Acted (outcome_of slots F k a) slots' bounds' table' F'
         → Turned (outcome S q R) slots' F' bounds' table' k (keys_of n r)
     turned-accepted {slots' = slots'} {bounds' = bounds'} {table' = table'} {F' = F'} d =
-        let O : Room = (outcome_of slots F k r).room in
+        let O : Room = (outcome_of slots F k a).room in
         let h = height-stands t.stands in
         let P : Profile = k.profile in
         let made = good-named P k.height O good in
@@ -182,16 +180,17 @@ module _ {slots : List ℕ} {F : Forecast} {bounds table : List ℕ} {k : Shape}
           room = room ∙ sym (ap (λ (o : Outcome). o.room) same);
         }
 
-  -- EITHER WAY it counts as a sweep where the rules sweep
-  pub swept-turn : (is_accepted r.verdict && ltb 0 r.level) ≡ (outcome S q R).swept
-  swept-turn = go (is_accepted r.verdict) refl
+  -- EITHER WAY it counts as a sweep where the rules sweep, and a key to take out is there
+  pub swept-turn : is_swept r ≡ (outcome S q R).swept
+  swept-turn = go r refl
     where
-      go : (b : Bool) → is_accepted r.verdict ≡ b → (is_accepted r.verdict && ltb 0 r.level) ≡ (outcome S q R).swept
-      go true e = swept-accepted e
-      go false e = swept-refused e
+      go : (z : Result Aim Refusal) → r ≡ z → is_swept r ≡ (outcome S q R).swept
+      go (Err x) e = swept-refused e
+      go (Ok a) e = swept-accepted e
 
--- equal lists and forecasts serve as well
-pub again : {o : Outcome} {slots slots' bounds bounds' table table' : List ℕ} {F F' : Forecast} {k : Shape} {n : ℕ} → slots' ≡ slots → F' ≡ F → bounds' ≡ bounds → table' ≡ table
-    → Turned o slots F bounds table k n → Turned o slots' F' bounds' table' k n
-again {o = o} {k = k} {n = n} p q b c t =
-    subst (λ (z : List ℕ × Forecast × List ℕ × List ℕ). Turned o z.0 z.1 z.2 z.3 k n) (sym (λ i. (p i, q i, b i, c i))) t
+  pub keys-asked : IfOk r (λ (a : Aim). a.grows ≡ false → 1 ≤ n)
+  keys-asked = go r refl
+    where
+      go : (z : Result Aim Refusal) → r ≡ z → IfOk z (λ (a : Aim). a.grows ≡ false → 1 ≤ n)
+      go (Err x) e = tt
+      go (Ok a) e = key-there e

@@ -1,9 +1,10 @@
 -- Records worked in order on a list that has been checked.
-use Rattle.std.specs.Prelude.{ℕ, ◌≡◌, List, [], ◌∷◌, length}
+use Rattle.std.specs.Prelude.{ℕ, ◌≡◌, List, [], ◌∷◌, length, Result}
 use Rattle.slots.specs.Segments.{keys, height_of, segments_of, render}
 use Rattle.levels.specs.Tables.{table_of}
 use Rattle.forecast.specs.declared.Forecast.{Forecast}
 use Rattle.forecast.specs.Cells.{used_cells, forecast_of}
+use Rattle.rules.specs.declared.Refusal.{Refusal}
 use Rattle.rules.specs.declared.Request.{Request}
 use Rattle.rules.specs.Refusals.{verdict_number}
 use Rattle.rules.specs.Placing.{Outcome, outcome}
@@ -21,7 +22,7 @@ use Rattle.aims.specs.Aims.{Stands, Aimed}
 use Rattle.steps.specs.declared.Worked.{Worked}
 
 -- A request q decided on a list of n keys: r is what it comes to.
-pub record Turning (slots : List ℕ) (F : Forecast) (bounds table : List ℕ) (k : Shape) (q : Request) (n : ℕ) (r : Aim) : Type 0 where
+pub record Turning (slots : List ℕ) (F : Forecast) (bounds table : List ℕ) (k : Shape) (q : Request) (n : ℕ) (r : Result Aim Refusal) : Type 0 where
   pub stands : Stands slots F k n
   pub shown : forecast_of (used_cells F) ≡ F
   pub index : Indexed (segments_of slots) slots bounds table

@@ -10,7 +10,6 @@ ghost use Rattle.steps.specs.Works.{Ends};
 
 use crate::Worked;
 use forecast::Forecast;
-use rules::Verdict;
 use shares::Shape;
 
 // The records in order: each is decided, then acted on. `plan` is a buffer for the plans of sweeps.
@@ -37,21 +36,21 @@ pub fn work(
         let record = records::record_at(requests, tally.place);
         let request = record.request;
         let card = record.card;
-        let aim = aims::aiming::aim(list, table, bounds, shape, request, keys);
+        let aimed = aims::aiming::aim(list, table, bounds, shape, request, keys);
         let left = allowance - tally.moves;
-        if tallies::halts(aim, left) {
+        if tallies::halts(aimed, left) {
             return Worked {
                 forecast,
                 tally,
-                stop: tallies::within(aim, left),
+                stop: tallies::within(aimed, left),
                 last,
                 keys,
             };
         }
-        let verdict = aim.verdict;
-        last = verdict;
-        let done = tallies::is_accepted(verdict);
-        if done {
+        last = aimed.and(Ok(()));
+        keys = tallies::grown(keys, aimed);
+        tally = tallies::next(tally, aimed, record.size);
+        if let Ok(aim) = aimed {
             forecast = acts::note(forecast, shape, aim);
             if aim.level == 0 {
                 acts::shift(list, cards, table, bounds, aim, card);
@@ -60,8 +59,6 @@ pub fn work(
                 forecast = acts::retarget(forecast, bounds, aim);
             }
         }
-        keys = tallies::grown(keys, aim, done);
-        tally = tallies::next(tally, aim, record.size, done);
     }
     Worked {
         forecast,

@@ -60,7 +60,7 @@ fn four(out: &mut impl Write, name: &str, totals: Totals) -> io::Result<()> {
     )
 }
 
-// What the cards hold, as one number.
+// What the cards hold, as one number. As in `trials`: the programs share no crate that sums.
 fn sum_of(cards: &[u32]) -> u64 {
     let mut sum: u64 = 0;
     for &card in cards {

@@ -1,16 +1,22 @@
 -- Verdicts by their numbers: 9 and 10 stop the run, over 0 it is a refusal. And what a request comes to within the moves that are left.
-use Rattle.std.proofs.Common.{Err, Ok}
+use Rattle.std.proofs.Common.{Result, Err, Ok}
 use mathlib.Core.Path.{◌≡◌, refl, sym, ap, ◌∙◌, subst}
 use mathlib.Core.Bool.{Bool, true, false, not, ◌&&◌}
 use Prim.Native.Nat.{ℕ, ◌≤◌, ◌<◌}
 use mathlib.Core.Logic.{◌≢◌}
 use lib.Dec.{T, ltb, ltb→lt}
+use native.Mathlib.Omega.{arith}
 use borrow.Author.Tests.{lt-ltb, le-ltb}
 use Rattle.lists.proofs.Tests.{and_left}
+use Rattle.rules.specs.declared.Refusal.{Refusal}
+use Rattle.rules.specs.declared.Request.{Request}
 use Rattle.rules.specs.declared.Refusal.TheVariants.{UnknownProfile, WrongLength, WrongCards, WrongOrder, CardInGap, TooManyKeys, WrongForecast, WrongTable, KeyZero, KeyPresent, KeyAbsent, Full, BadRecord, AllowancePassed}
 use Rattle.rules.specs.Refusals.{verdict_number, Verdict}
+use Rattle.rules.specs.Shares.{Shares}
+use Rattle.rules.specs.Placing.{Room, outcome}
 use Rattle.aims.specs.declared.Aim.{Aim}
-use Rattle.tallies.specs.Counted.{is_stop, is_accepted, comes_to}
+use Rattle.aims.specs.Aims.{Aimed}
+use Rattle.tallies.specs.Counted.{is_stop, is_accepted, comes_to, verdict_of, moves_of}
 
 abbrev stopping : ℕ → Bool
 stopping n = ltb 8 n && ltb n 11
@@ -38,15 +44,19 @@ stop-high v e = ltb→lt 8 (verdict_number v) (and_left (ltb 8 (verdict_number v
 pub on-good : (v : Verdict) → is_stop v ≡ false → verdict_number v ≢ 9
 on-good v e z = subst (λ (b : Bool). T (not b)) (sym e ∙ (told v).0 ∙ ap stopping z) tt
 
-pub accepted-is : (v : Verdict) → is_accepted v ≡ true → v ≡ Ok tt
-accepted-is (Err x) e = absurd (subst T (sym e) tt)
-accepted-is (Ok x) e = refl
+pub comes-over : (left : ℕ) (r : Result Aim Refusal) → left < moves_of r → comes_to left r ≡ Err AllowancePassed
+comes-over left (Err x) h = absurd (omega (arith, h))
+comes-over left (Ok r) h = rw (lt-ltb left r.moves h) refl
 
-pub refused-some : (v : Verdict) → is_accepted v ≡ false → 0 < verdict_number v
-refused-some v e = ltb→lt 0 (verdict_number v) (subst T (ap not (sym e) ∙ (told v).1) tt)
+pub comes-within : (left : ℕ) (r : Result Aim Refusal) → moves_of r ≤ left → comes_to left r ≡ verdict_of r
+comes-within left (Err x) h = refl
+comes-within left (Ok r) h = rw (le-ltb left r.moves h) refl
 
-pub comes-over : (left : ℕ) (r : Aim) → left < r.moves → comes_to left r ≡ Err AllowancePassed
-comes-over left r h = rw (lt-ltb left r.moves h) refl
+-- its number and its moves are those of the rules
+pub aimed-number : (S : Shares) (q : Request) (R : Room) (r : Result Aim Refusal) → Aimed S q R r → verdict_number (verdict_of r) ≡ (outcome S q R).answer.number
+aimed-number S q R (Err x) a = a.0
+aimed-number S q R (Ok r) a = a.number
 
-pub comes-within : (left : ℕ) (r : Aim) → r.moves ≤ left → comes_to left r ≡ r.verdict
-comes-within left r h = rw (le-ltb left r.moves h) refl
+pub aimed-moves : (S : Shares) (q : Request) (R : Room) (r : Result Aim Refusal) → Aimed S q R r → moves_of r ≡ (outcome S q R).answer.moves
+aimed-moves S q R (Err x) a = a.1
+aimed-moves S q R (Ok r) a = a.moves

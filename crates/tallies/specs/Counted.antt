@@ -1,5 +1,6 @@
 -- What is counted of the records of a run, and what stops it.
-use Rattle.std.specs.Prelude.{ℕ, ◌+◌, ◌-◌, Bool, true, false, not, ◌&&◌, ltb, if◌then◌else◌, Err, Ok}
+use Rattle.std.specs.Prelude.{ℕ, ◌+◌, ◌-◌, Bool, true, false, not, ltb, if◌then◌else◌, Result, Err, Ok}
+use Rattle.std.specs.Result.{result_and}
 use Rattle.rules.specs.declared.Refusal.{Refusal}
 use Rattle.rules.specs.declared.Tally.{Tally}
 use Rattle.rules.specs.Refusals.{Verdict}
@@ -32,19 +33,33 @@ is_accepted (Err x) = false
 is_accepted (Ok x) = true
 
 -- What a request comes to where so many moves are left.
-abbrev pub comes_to : ℕ → Aim → Verdict
-comes_to left r = if ltb left r.moves then Err Refusal.AllowancePassed else r.verdict
+abbrev pub comes_to : ℕ → Result Aim Refusal → Verdict
+comes_to left (Err x) = Err x
+comes_to left (Ok r) = if ltb left r.moves then Err Refusal.AllowancePassed else Ok tt
+
+-- What it comes to where enough are left, its moves, and whether it sweeps.
+abbrev pub verdict_of : Result Aim Refusal → Verdict
+verdict_of r = result_and r (Ok tt)
+
+abbrev pub moves_of : Result Aim Refusal → ℕ
+moves_of (Err x) = 0
+moves_of (Ok r) = r.moves
+
+abbrev pub is_swept : Result Aim Refusal → Bool
+is_swept (Err x) = false
+is_swept (Ok r) = ltb 0 r.level
 
 -- One record more, of so many bytes, by what it came to.
-abbrev pub next_of : Tally → Aim → ℕ → Tally
+abbrev pub next_of : Tally → Result Aim Refusal → ℕ → Tally
 next_of t r size = record {
   worked = t.worked + 1;
-  refused = t.refused + one (not (is_accepted r.verdict));
-  moves = t.moves + r.moves;
-  sweeps = t.sweeps + one (is_accepted r.verdict && ltb 0 r.level);
+  refused = t.refused + one (not (is_accepted (verdict_of r)));
+  moves = t.moves + moves_of r;
+  sweeps = t.sweeps + one (is_swept r);
   place = t.place + size;
 }
 
 -- The keys then.
-abbrev pub keys_of : ℕ → Aim → ℕ
-keys_of n r = if is_accepted r.verdict then (if r.grows then n + 1 else n - 1) else n
+abbrev pub keys_of : ℕ → Result Aim Refusal → ℕ
+keys_of n (Err x) = n
+keys_of n (Ok r) = if r.grows then n + 1 else n - 1

@@ -13,6 +13,7 @@ use rules::{Tally, Totals};
 pub struct Told {
     pub forecast: Forecast,
     pub tally: Tally,
+    // A number and no verdict: C reads this record as it stands.
     pub stop: u64,
 }
 

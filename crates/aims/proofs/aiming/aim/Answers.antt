@@ -9,4 +9,4 @@ pub returns-in-Delete : goal.returns-in-Delete
 returns-in-Delete c F s = rw c.in-Delete.is (c.aim_out.ensures F s)
 
 pub returns-in-Bad : goal.returns-in-Bad
-returns-in-Bad c F s = rw (c.refuse.ensures, c.in-Bad.is) (aimed-bad _ _)
+returns-in-Bad c F s = rw c.in-Bad.is (aimed-bad _ _)

@@ -9,14 +9,14 @@ use Rattle.aims.proofs.aiming.aim_out.Goals as goal
 use Rattle.aims.proofs.aiming.aim_out.Goals.{Else-not-place}
 
 pub returns-then-key-eq0 : goal.returns-then-key-eq0
-returns-then-key-eq0 c F s = rw c.refuse.ensures (out-zero s c.if-key-eq0.true)
+returns-then-key-eq0 c F s = out-zero s c.if-key-eq0.true
 
 pub spot-spot-requires : goal.spot-spot-requires
 spot-spot-requires c = (c.requires.index, omega arith)
 
 pub returns-then-not-place : goal.returns-then-not-place
 returns-then-not-place c F s =
-    rw c.refuse-then-not-place.ensures (out-absent s c.if-key-eq0.false c.spot-spot.ensures (not-true _ c.if-not-place.true))
+    out-absent s c.if-key-eq0.false c.spot-spot.ensures (not-true _ c.if-not-place.true)
 
 -- the key's place is below the number of keys there
 under : (c : Else-not-place) → c.spot-spot.result.place.at < c.spot-spot.result.place.held

@@ -6,7 +6,7 @@ ghost use Rattle.records.specs.Asked.{asked};
 ghost use Rattle.asking.specs.Requested.{TellsSparse, Requested};
 
 use forecast::Forecast;
-use rules::{Profile, Verdict};
+use rules::Verdict;
 
 // What a request comes to, before it is told as an insert's or a delete's answer.
 #[derive(Clone, Copy)]
@@ -28,12 +28,10 @@ fn is_sparse(profile: u64, grows: bool, verdict: Verdict, keys: usize, long: usi
     if let Err(_) = verdict {
         return false;
     }
-    // An accepted request names a profile.
-    let profile = Profile::try_from(profile).unwrap_or(Profile::First);
     let Some(height) = places::heights::height_of(long) else {
         return false;
     };
-    keys < shares::shape_of(profile, height).floor
+    keys < shares::shape_of(shares::profile_of(profile), height).floor
 }
 
 // The request's record is worked with an allowance that it cannot pass. `card` is that of a key put in.

@@ -35,6 +35,12 @@ module _ {A : Type 0} where
       ∙ ap (λ (t : List A). t ++ drop (to + e + k) l) (append_assoc (take to l) (take e d) (take k (drop e d)) ∙ ap (λ (t : List A). take to l ++ t) (sym (take-add e k d)))
       ∙ ap (λ (n : ℕ). take to l ++ take (e + k) d ++ drop n l) e₁
 
+  -- the same, of what was read and what it was laid over
+  pub laid_on : (l s read over new : List A) (a to e k i : ℕ) → to + (e + k) ≤ length l → a + (e + k) ≤ length s → e ≤ i → i ≤ e + k
+      → take k (drop (a + e) s) ≡ read → over ≡ paste l to (drop a s) i → new ≡ take (to + e) over ++ read ++ drop (to + e + k) over → new ≡ paste l to (drop a s) (e + k)
+  laid_on l s read over new a to e k i h q j m r o n =
+      n ∙ ap₂ {C = List A} (λ (p vs : List A). take (to + e) p ++ vs ++ drop (to + e + k) p) o (sym r) ∙ lay-on l s a to e k i h q j m
+
   -- TO THE LEFT: the same from the list itself, as the movement of i slots has left it
   left-on : (l : List A) (from to i k : ℕ) → to ≤ from → from + (i + k) ≤ length l → moved (from + i) (to + i) k (moved from to i l) ≡ moved from to (i + k) l
   left-on l from to i k h q =

@@ -1,14 +1,24 @@
--- Slots copied to the left and to the right: where the movements begin and end.
-use mathlib.Core.Path.{◌≡◌, sym}
-use Prim.Native.Nat.{ℕ, ◌+◌, ◌-◌}
+-- Slots copied one at a time from another list; and to the left and to the right: where the movements begin and end.
+use mathlib.Core.Path.{◌≡◌, sym, ap, ◌∙◌}
+use Prim.Native.Nat.{ℕ, ◌+◌, ◌-◌, ◌<◌}
 use native.Mathlib.Nat.{add-zero}
+use native.Mathlib.Numerals.{add-one}
 use native.Mathlib.Omega.{arith}
 use mathlib.Core.List.{List, ◌++◌, append_assoc}
-use lib.ListN.{take, drop, take-append-drop}
-use lib.Seq.{paste-zero}
+use lib.ListN.{length, get_or, set, take, drop, length-drop, take-append-drop}
+use lib.Seq.{paste, paste-zero, paste-suc, get_or-drop}
 use Rattle.moves.specs.Moves.{moved}
 
 module _ {A : Type 0} where
+  -- FROM another list: i slots of s from a on are copied
+  pub copy_more : (l s : List A) (a w i : ℕ) (z : A) → w + i < length l → a + i < length s
+      → set (paste l w (drop a s) i) (w + i) (get_or s (a + i) z) ≡ paste l w (drop a s) (i + 1)
+  copy_more l s a w i z h k =
+      let hs : i < length (drop a s) = simp length-drop (omega arith) in
+      ap (set (paste l w (drop a s) i) (w + i)) (sym (get_or-drop a s i z))
+      ∙ paste-suc l w (drop a s) i z h hs
+      ∙ ap (paste l w (drop a s)) (sym (add-one i))
+
   -- TO THE LEFT: none is copied
   pub left-none : (l : List A) (from to : ℕ) → l ≡ moved from to 0 l
   left-none l from to = paste-zero l to (drop from l)

@@ -22,7 +22,8 @@ pub fn gaps_rest(list: &[u64], a: usize, e: usize) -> usize
     e
 }
 
-// No key from slot `a` up to `e`, which is eight slots on or more: by sixteens; the last sixteen may overlap those before.
+// No key from slot `a` up to `e`, which is eight slots on or more: by sixteens; the last sixteen may overlap those before, and are no whole
+// sixteen read again.
 // Fewer than sixteen are two eights, which may overlap. Parts of a length that is known: the compiler takes the slots of each at once.
 fn all_gaps(list: &[u64], a: usize, e: usize) -> bool
     requires { (a + 8 ≤ e) × (e ≤ length list.now) }
@@ -31,7 +32,7 @@ fn all_gaps(list: &[u64], a: usize, e: usize) -> bool
     if e < a + 16 {
         return (bits(&list[a..a + 8]) | bits(&list[e - 8..e])) == 0;
     }
-    for k in 0..(e - a) / 16 {
+    for k in 0..(e - a - 1) / 16 {
         let i = a + 16 * k;
         if bits(&list[i..i + 16]) != 0 {
             return false;

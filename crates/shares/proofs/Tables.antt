@@ -1,5 +1,5 @@
 -- The constant tables' rows are the rules' shares: one computed test of the highs of both profiles, and one of the lows.
-use mathlib.Core.Path.{◌≡◌, refl}
+use mathlib.Core.Path.{◌≡◌, refl, sym, ap, ◌∙◌}
 use mathlib.Core.Bool.{Bool, ◌&&◌}
 use mathlib.Core.List.{List, [], ◌∷◌, ◌++◌, map}
 use Prim.Native.Nat.{ℕ, zero, suc, ◌-◌, ◌≤◌, ◌<◌}
@@ -7,11 +7,13 @@ use native.Mathlib.Omega.{arith}
 use lib.Dec.{T, leb, eqb, eqb→eq, leb→le}
 use Rattle.lists.proofs.Tests.{and_left, and_right}
 use lib.ListN.{length, take, replicate, get_or, length-take, length-append}
+use Rattle.std.proofs.Math.ListN.{get_or-map}
 use Rattle.rules.specs.declared.Profile.{Profile}
 use Rattle.rules.specs.declared.Profile.TheVariants.{First, Second}
 use Rattle.rules.specs.Shares.{shares, row_at, high_rows, low_rows}
 use Rattle.rules.proofs.Sharing.Table.{everywhere, at}
-use Rattle.shares.specs.Rows.{Row}
+use Rattle.shares.specs.Rows.{Row, Rows}
+use Rattle.shares.specs.declared.LevelShares.{LevelShares}
 
 -- the constants' rows: those of the rules, filled up with 0
 abbrev wide : List (List ℕ) → List (List ℕ)
@@ -63,3 +65,26 @@ low_told = row_of low_rows (λ p h l. (shares p h).low l) 20 six tt
     six : (p : Profile) → length (low_rows p) ≡ 6
     six First = refl
     six Second = refl
+
+-- the rows of a profile beside one another, as the code's table of it has them
+abbrev pub table : Profile → List LevelShares
+table p = map (λ k. record { highs = get_or (wide (high_rows p)) k []; lows = get_or (wide (low_rows p)) k [] }) (0 ∷ 1 ∷ 2 ∷ 3 ∷ 4 ∷ 5 ∷ [])
+
+-- so an entry of it has the shares of its height
+abbrev pub Told : Profile → ℕ → LevelShares → Type 0
+Told p h r = Rows (shares p h) r.lows r.highs × (get_or r.highs h 0 ≤ 64) × (get_or r.lows h 0 ≤ 20)
+
+pub table-told : (p : Profile) (h : ℕ) → (1 ≤ h) × (h ≤ 6) → Told p h (get_or (table p) (h - 1) (record { highs = []; lows = [] }))
+table-told p h i =
+    let none : LevelShares = record { highs = []; lows = [] } in
+    let high : get_or (wide (high_rows p)) (h - 1) [] ≡ (get_or (table p) (h - 1) none).highs = ap (λ rows. get_or rows (h - 1) []) (sym (highs p)) ∙ get_or-map (λ (r : LevelShares). r.highs) (table p) (h - 1) none in
+    let low : get_or (wide (low_rows p)) (h - 1) [] ≡ (get_or (table p) (h - 1) none).lows = ap (λ rows. get_or rows (h - 1) []) (sym (lows p)) ∙ get_or-map (λ (r : LevelShares). r.lows) (table p) (h - 1) none in
+    rw (sym high, sym low) (record { low = (low_told p h i).0; high = (high-told p h i).0 }, (high-told p h i).1, (low_told p h i).1)
+  where
+    highs : (p : Profile) → map (λ (r : LevelShares). r.highs) (table p) ≡ wide (high_rows p)
+    highs First = refl
+    highs Second = refl
+
+    lows : (p : Profile) → map (λ (r : LevelShares). r.lows) (table p) ≡ wide (low_rows p)
+    lows First = refl
+    lows Second = refl

@@ -2,6 +2,7 @@
 #![tactic(auto)]
 
 ghost use Rattle.std.specs.Prelude.{◌≡◌, ◌≤◌, ◌*◌, ◌^◌, get_or};
+ghost use Rattle.rules.specs.Profiles.{profile_of};
 ghost use Rattle.rules.specs.Shares.{shares};
 ghost use Rattle.shares.specs.Rows.{Rows, Fetched};
 
@@ -75,6 +76,16 @@ pub fn power(l: usize) -> usize
     ensures { (result ≡ 2 ^ l) × (result ≤ 64) × (1 ≤ result) }
 {
     1 << l
+}
+
+// The profile that a number names; the first for a number that names none.
+pub fn profile_of(n: u64) -> Profile
+    ensures { result ≡ profile_of n }
+{
+    if n == 2 {
+        return Profile::Second;
+    }
+    Profile::First
 }
 
 // All that a list keeps to, fetched once for a call: its number of cells, the most keys that it holds, the number of keys under which it is
